@@ -1,16 +1,13 @@
 -- A list inside a string, and its first fault.
-use Rattle.std.proofs.Common.{◌≡◌, ℕ, ◌+◌, ◌⊎◌, Bool, true, false, IsTrue, List, [], ◌∷◌, ◌++◌, length, Option, Some, None, Ok, Err, refl, sym, ap, subst, ◌∙◌, arith, append_assoc, append-nil, length-append, inl, inr, ⊎_elim}
+use Rattle.std.proofs.Common.{◌≡◌, ℕ, ◌+◌, ◌⊎◌, true, false, List, [], ◌∷◌, ◌++◌, length, Option, Some, None, Ok, Err, refl, sym, ap, subst, ◌∙◌, arith, append_assoc, append-nil, length-append, ⊎_elim}
 use Rattle.std.specs.Borrow.{Bor}
-use Rattle.std.specs.Prelude.{◌↔◌, MatchOption}
+use Rattle.std.specs.Prelude.{MatchOption}
 use Rattle.std.proofs.lemmas.List.{append_cancel_left, nil_from_length}
 use Rattle.der_base.specs.declared.error.Err.{Err as Refused}
 use Rattle.der_base.specs.declared.error.Error.{Error as BerError}
-use Rattle.der_base.specs.declared.header.Class.{Class}
 use Rattle.der_base.specs.declared.header.Class.TheVariants.{Universal}
 use Rattle.der_base.specs.declared.header.Header.{Header}
-use Rattle.der_base.specs.declared.header.Length.{Length}
-use Rattle.der_base.specs.declared.header.Length.TheVariants.{Definite, Indefinite}
-use Rattle.der_base.specs.Header.{class_of, is_constructed, length_of, number_of}
+use Rattle.der_base.specs.declared.header.Length.TheVariants.{Definite}
 use Rattle.der_base.specs.Headers.{LeadingHeader, leading_header}
 use Rattle.der_base.specs.Octets.{identifier}
 use Rattle.der_base.specs.Spelling.{end_marker}
@@ -26,7 +23,7 @@ use Rattle.der_walk.specs.Inside.{FaultsAt, IsFaultInside, IsListFrame, IsListOf
 use Rattle.der_walk.specs.Reading.{FindsString, definite_of, octets_or_none, string_front_of}
 use Rattle.der_walk.specs.Visits.{IsHeaderBy, IsStringFront}
 use Rattle.der_walk.specs.Walked.{visited_of}
-use Rattle.der_walk.proofs.Headers.{Parts, header_parts, spells_parts}
+use Rattle.der_walk.proofs.Headers.{header_parts, spells_parts}
 use Rattle.der_walk.proofs.OneVisit.{front_same, same_start}
 
 -- headers

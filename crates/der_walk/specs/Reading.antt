@@ -1,7 +1,7 @@
 -- What the private functions of the walk find and do.
 use Rattle.std.specs.Borrow.{Bor}
-use Rattle.std.specs.Prelude.{◌≡◌, ℕ, suc, ◌+◌, ◌-◌, ◌≤◌, ◌⊎◌, Bool, true, false, ◌&&◌, ◌==◌, if◌then◌else◌}
-use Rattle.std.specs.Prelude.{IsTrue, Option, Some, None, is_some, unwrap_or}
+use Rattle.std.specs.Prelude.{◌≡◌, ℕ, suc, ◌+◌, ◌-◌, ◌≤◌, ◌⊎◌, Bool, true, false, ◌==◌, if◌then◌else◌}
+use Rattle.std.specs.Prelude.{Option, Some, None, is_some, unwrap_or}
 use Rattle.std.specs.Prelude.{MatchOption, IfSome, IsSome, IsSomeAnd, ◌≢◌, ◌<◌, ◌^◌}
 use Rattle.std.specs.Prelude.{List, [], ◌∷◌, ◌++◌, length, min}
 use Rattle.der_base.specs.declared.header.Class.TheVariants.{Universal}

@@ -1,5 +1,5 @@
 -- The names of types and tags, as ASN.1 writes them.
-use Rattle.std.specs.Prelude.{ℕ, List, [], ◌∷◌, ◌++◌, codes, decimal}
+use Rattle.std.specs.Prelude.{ℕ, Option, None, List, [], ◌∷◌, ◌++◌, codes, decimal}
 use Rattle.std.specs.Option.{unwrap_or}
 use Rattle.der_base.specs.declared.header.Class.{Class}
 use Rattle.der_base.specs.declared.header.Class.TheVariants.{Universal, Application, ContextSpecific, Private}
@@ -49,9 +49,20 @@ universal_names =
     ∷ (16, codes "SEQUENCE")
     ∷ (17, codes "SET") ∷ string_names
 
--- the name of a universal type, or its tag
+-- the name of a universal type, and none for another tag
+abbrev pub known_text : Class → ℕ → Option (List ℕ)
+known_text Universal n = name_at universal_names n
+known_text Application n = None
+known_text ContextSpecific n = None
+known_text Private n = None
+
+-- a tag
+abbrev pub tag_text : Class → ℕ → List ℕ
+tag_text Universal n = codes "[UNIVERSAL " ++ decimal n ++ codes "]"
+tag_text Application n = codes "[APPLICATION " ++ decimal n ++ codes "]"
+tag_text ContextSpecific n = codes "[" ++ decimal n ++ codes "]"
+tag_text Private n = codes "[PRIVATE " ++ decimal n ++ codes "]"
+
+-- the name of a universal type, or else the tag
 abbrev pub type_text : Class → ℕ → List ℕ
-type_text Universal n = unwrap_or (name_at universal_names n) (codes "[UNIVERSAL " ++ decimal n ++ codes "]")
-type_text Application n = codes "[APPLICATION " ++ decimal n ++ codes "]"
-type_text ContextSpecific n = codes "[" ++ decimal n ++ codes "]"
-type_text Private n = codes "[PRIVATE " ++ decimal n ++ codes "]"
+type_text class n = unwrap_or (known_text class n) (tag_text class n)

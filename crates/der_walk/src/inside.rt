@@ -1,7 +1,7 @@
 //! Where a list inside a string is at fault.
-ghost use Rattle.std.specs.Prelude.{◌↔◌, ℕ, IsTrue, MatchOption};
+ghost use Rattle.std.specs.Prelude.{◌↔◌, ℕ, IsTrue, MatchOption, Some};
 ghost use Rattle.der_walk.specs.Inside.{IsFaultInside, IsListFrame, IsListOf};
-ghost use Rattle.der_walk.specs.Reading.{octets_or_none};
+ghost use Rattle.der_walk.specs.Reading.{FindsString, octets_or_none};
 ghost use Rattle.der_walk.specs.Walked.{visited_of};
 
 use crate::element::Element;
@@ -21,9 +21,19 @@ pub fn fault_inside(element: &Element<'_>) -> Option<usize>
     ensures { let v = visited_of element.now in let w = octets_or_none element.now.content in
         MatchOption result ((n : ℕ) → ¬ IsFaultInside v w n) (λ n. IsFaultInside v w n) }
 {
-    let Some(octets) = element.string_octets() else {
-        return None;
-    };
+    match element.string_octets() {
+        Some(octets) => fault_in(element, octets),
+        None => None,
+    }
+}
+
+/// Where a list that is the octets of a string is at fault.
+#[inline(never)]
+fn fault_in(element: &Element<'_>, octets: &[u8]) -> Option<usize>
+    requires { FindsString element.now (Some octets) }
+    ensures { let v = visited_of element.now in let w = octets_or_none element.now.content in
+        MatchOption result ((n : ℕ) → ¬ IsFaultInside v w n) (λ n. IsFaultInside v w n) }
+{
     if !is_list_frame(octets) || is_element(octets, Rules::Ber, MOST_INSIDE) {
         return None;
     }

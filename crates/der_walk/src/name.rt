@@ -2,7 +2,7 @@
 ghost use Rattle.std.specs.Prelude.{◌≡◌};
 ghost use Rattle.std.specs.Option.{option_copied};
 ghost use Rattle.der_base.specs.Names.{name_at};
-ghost use Rattle.der_walk.specs.TypeNames.{string_names, universal_names};
+ghost use Rattle.der_walk.specs.TypeNames.{known_text, string_names, universal_names};
 
 use der_base::header::Class;
 use std::fmt;
@@ -16,6 +16,18 @@ pub struct TypeName {
     pub number: u32,
 }
 
+impl TypeName {
+    /// The name of a universal type (X.680 8.4, table 1). None for another tag.
+    pub fn known(&self) -> Option<&'static str>
+        ensures { option_copied result ≡ known_text self.now.class self.now.number }
+    {
+        match self.class {
+            Class::Universal => universal_name(self.number),
+            Class::Application | Class::ContextSpecific | Class::Private => None,
+        }
+    }
+}
+
 impl fmt::Display for TypeName {
     ghost use Rattle.std.specs.Prelude.{Some};
     ghost use Rattle.der_walk.specs.TypeNames.{type_text};
@@ -23,12 +35,12 @@ impl fmt::Display for TypeName {
     ghost output = { λ x. Some (type_text x.class x.number) };
 
     fn fmt<W: fmt::Write>(&self, f: &mut fmt::Formatter<W>) -> fmt::Result {
+        if let Some(name) = self.known() {
+            return f.write_str(name);
+        }
         let number = self.number;
         match self.class {
-            Class::Universal => match universal_name(number) {
-                Some(name) => write!(f, "{name}"),
-                None => write!(f, "[UNIVERSAL {number}]"),
-            },
+            Class::Universal => write!(f, "[UNIVERSAL {number}]"),
             Class::Application => write!(f, "[APPLICATION {number}]"),
             Class::ContextSpecific => write!(f, "[{number}]"),
             Class::Private => write!(f, "[PRIVATE {number}]"),

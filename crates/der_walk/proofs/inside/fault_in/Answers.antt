@@ -1,15 +1,14 @@
-use Rattle.std.proofs.Common.{arith, subst}
-use Rattle.der_walk.specs.Reading.{FindsString}
+use Rattle.std.proofs.Common.{arith}
 use Rattle.der_walk.proofs.ListFaults.{begins_none, front_size, list_found, list_same}
-use Rattle.der_walk.proofs.inside.fault_inside.Goals.{then-not-is_list_frame-via-then-not-is_list_frame, then-not-is_list_frame-via-else-not-is_list_frame+then-is_element}
-use Rattle.der_walk.proofs.inside.fault_inside.Goals as goal
+use Rattle.der_walk.proofs.inside.fault_in.Goals.{then-not-is_list_frame-via-then-not-is_list_frame, then-not-is_list_frame-via-else-not-is_list_frame+then-is_element}
+use Rattle.der_walk.proofs.inside.fault_in.Goals as goal
 
 pub returns-then-not-is_list_frame : goal.returns-then-not-is_list_frame
 returns-then-not-is_list_frame c =
     let e = c.args.element.now in
-    let f = subst (λ r. FindsString e r) c.in-Some.is c.string_octets.ensures in
+    let f = c.requires in
     λ n at.
-    let z = list_same e c.in-Some.octets n f at in
+    let z = list_same e c.args.octets n f at in
     elim c.then-not-is_list_frame.branch [
       | then-not-is_list_frame-via-then-not-is_list_frame w ↦ absurd (let t = c.is_list_frame.ensures.1 z.0 in let q = w.if-not-is_list_frame.true in cc)
       | then-not-is_list_frame-via-else-not-is_list_frame+then-is_element w ↦ z.1 (w.is_element.ensures.0 w.if-is_element.true)
@@ -17,19 +16,19 @@ returns-then-not-is_list_frame c =
 
 pub first_fault-fault-requires-clause-none : goal.first_fault-fault-requires-clause-none
 first_fault-fault-requires-clause-none c =
-    begins_none c.in-Some.octets.now (c.is_list_frame.ensures.0 c.if-not-is_list_frame.false) (λ one. absurd (let t = c.is_element.ensures.1 one in let q = c.if-is_element.false in cc))
+    begins_none c.args.octets.now (c.is_list_frame.ensures.0 c.if-not-is_list_frame.false) (λ one. absurd (let t = c.is_element.ensures.1 one in let q = c.if-is_element.false in cc))
 
 pub returns : goal.returns
 returns c =
     let e = c.args.element.now in
-    let f = subst (λ r. FindsString e r) c.in-Some.is c.string_octets.ensures in
-    let (u, front, parts) = list_found e c.in-Some.octets f in
+    let f = c.requires in
+    let (u, front, parts) = list_found e c.args.octets f in
     let size = front_size e.number u front in (
       f.0,
       f.1,
       record {
         front = u;
-        list = c.in-Some.octets.now;
+        list = c.args.octets.now;
         parts = parts;
         is_front = front;
         frame = c.is_list_frame.ensures.0 c.if-not-is_list_frame.false;
