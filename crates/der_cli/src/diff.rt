@@ -139,10 +139,10 @@ fn print_differences<W: Write>(
         };
         let are_alike = order == Ordering::Equal && left.is_alike(&right);
         if order != Ordering::Greater {
-            room = left.pass(are_alike, b"- ", room, style, own, out)?;
+            left.pass(are_alike, b"- ", &mut room, style, own, out)?;
         }
         if order != Ordering::Less {
-            room = right.pass(are_alike, b"+ ", room, style, own, out)?;
+            right.pass(are_alike, b"+ ", &mut room, style, own, out)?;
         }
     }
     Ok(())
@@ -216,17 +216,17 @@ impl<'a, 'e> Side<'a, 'e> {
         &mut self,
         is_alike: bool,
         sign: &[u8],
-        room: Room,
+        room: &mut Room,
         style: Style,
         own: Option<&'n OwnNames<'n>>,
         out: &mut W,
-    ) -> io::Result<Room> {
+    ) -> io::Result<()> {
         let Some(next) = self.elements.get(self.at) else {
-            return Ok(room);
+            return Ok(());
         };
         self.at = self.at.saturating_add(1);
         if is_alike {
-            return Ok(room);
+            return Ok(());
         }
         out.write_all(sign)?;
         write_named_line(out, room, next, style, own)

@@ -43,6 +43,7 @@ pub(crate) fn place_named(word: &str) -> Place<'_> {
 }
 
 /// Whether an element that was visited last is at a place. If none is asked for, the outermost elements are.
+#[inline(always)]
 pub(crate) fn is_asked(
     alloc: Global,
     place: Option<Place<'_>>,

@@ -18,8 +18,8 @@ use der_json::{Paths, write_json};
 use der_print::{Room, write_line_of};
 use der_walk::{Element, Walk};
 use std::alloc::Global;
+use std::io;
 use std::io::Write;
-use std::{io, mem};
 
 /// What the line of an element is.
 #[derive(Clone, Copy, Debug, PartialEq)]
@@ -125,17 +125,16 @@ fn pass<W: Write>(
         (W.contents out.new ≡ W.contents out.old)) }
 {
     match printed.lines {
-        Lines::Tree => pass_in_tree(alloc, options, visit, kept, element, out),
+        Lines::Tree => pass_in_tree(options, visit, &mut kept.room, element, out),
         Lines::Json => pass_in_json(alloc, options, printed, visit, fields, kept, element, out),
     }
 }
 
 /// Writes the line of an element in a tree if it is listed.
 fn pass_in_tree<W: Write>(
-    alloc: Global,
     options: &Options<'_>,
     visit: Visit,
-    kept: &mut Kept,
+    room: &mut Room,
     element: &Element<'_>,
     out: &mut W,
 ) -> io::Result<()>
@@ -148,8 +147,7 @@ fn pass_in_tree<W: Write>(
         return Ok(());
     }
     let (style, own) = (options.style, options.own_names);
-    let room = mem::replace(&mut kept.room, Room::new(alloc));
-    kept.room = write_line_of(out, room, element, visit.field, style, own)?;
+    write_line_of(out, room, element, visit.field, style, own)?;
     Ok(())
 }
 

@@ -56,7 +56,7 @@ pub fn write_fields<'a, 'n, W: Write>(
             Ok(Some(element)) => {
                 let name = namer.name_of(&element);
                 left = left_past(left, name, element.offset);
-                room = write_line_of(out, room, &element, text_of(name), style, own)?;
+                write_line_of(out, &mut room, &element, text_of(name), style, own)?;
             }
             Ok(None) => return Ok(ended(left, namer.is_whole())),
             Err(refusal) => return Ok(refused(walk, refusal, left)),

@@ -1,5 +1,5 @@
 -- The first characters of a text, and how many it has.
-use Rattle.std.proofs.Common.{◌≡◌, ℕ, ◌+◌, ◌-◌, ◌<◌, ◌≤◌, Bool, true, false, cond, List, [], ◌∷◌, ◌++◌, take, drop, length, min, codes, nat_le, if◌then◌else◌, refl, sym, ap, ◌∙◌, arith, append_assoc, append-nil, length-append, ◌==◌, suc, zero}
+use Rattle.std.proofs.Common.{◌≡◌, ℕ, ◌+◌, ◌-◌, ◌<◌, ◌≤◌, Bool, true, false, cond, List, [], ◌∷◌, ◌++◌, take, drop, length, min, codes, nat_le, refl, sym, ap, ◌∙◌, arith, append_assoc, append-nil, ◌==◌, suc, zero}
 use Rattle.std.proofs.Math.ListN.{drop_of_length-le, get_or}
 use Rattle.std.proofs.Math.Seq.{drop-cons, take-suc, take_all}
 use Rattle.std.proofs.lemmas.List.{drop_more}

@@ -1,12 +1,19 @@
 -- A line that grows by a part.
-use Rattle.std.proofs.Common.{◌≡◌, ℕ, ◌+◌, ◌-◌, ◌≤◌, List, [], ◌++◌, take, drop, length, min, Result, Ok, Err, IfOk, sym, ap, ◌∙◌, arith, take-take, append-nil, length-append}
+use Rattle.std.proofs.Common.{◌≡◌, ℕ, ◌+◌, ◌-◌, ◌≤◌, List, Option, [], ◌++◌, take, drop, length, Result, Ok, Err, IfOk, sym, ap, ◌∙◌, arith, take-take, append-nil, length-append}
 use Rattle.std.proofs.Math.ListN.{drop_of_length-le}
 use Rattle.std.proofs.Math.Seq.{drop-append_seam, take-append_seam}
+use Rattle.std.proofs.lemmas.Fmt.{contents_after_writes}
 use Rattle.std.proofs.lemmas.List.{drop-take, length-take, take-append-drop}
 use Rattle.der_print.specs.declared.style.Limit.{Limit}
 use Rattle.der_print.specs.declared.style.Limit.TheVariants.{Columns}
 use Rattle.der_print.specs.Cuts.{behind, cut, in_columns}
-use Rattle.der_print.specs.Parts.{AddsPart}
+use Rattle.std.specs.Fmt.{WritesInCalls}
+use Rattle.der_walk.specs.Visits.{Visited}
+use Rattle.oid_names.specs.OwnNames.{Named}
+use Rattle.der_print.specs.declared.line_octets.LineOctets.{LineOctets}
+use Rattle.der_print.specs.Lines.{IsEnding}
+use Rattle.der_print.specs.Parts.{AddsPart, GrowsByEnding}
+use Rattle.der_print.specs.Texts.{octets_in}
 use Rattle.der_print.proofs.CutLaws.{behind_none, cut_none}
 
 -- a line that grew by nothing
@@ -52,3 +59,9 @@ kept_after w start kept n within inside is = ap (λ k. take k w) is ∙ take_plu
 pub ok_then : {T E : Type 0} (r : Result T E) (P Q : T → Type 0) → ((x : T) → P x → Q x) → IfOk r P → IfOk r Q
 ok_then (Ok x) P Q f h = f x h
 ok_then (Err e) P Q f h = tt
+
+-- an ending that was written into a line
+pub grown_by_ending : (own : Option (List Named)) (limit : Limit) (v : Visited) (w : List ℕ) (old new : LineOctets) (text : List ℕ) → IsEnding own limit v w text
+    → WritesInCalls (λ l t m. octets_in m ≡ octets_in l ++ t) old text new → GrowsByEnding own limit v w old new
+grown_by_ending own limit v w old new text is wrote =
+    record { text = text; ending = is; grows = contents_after_writes _ octets_in (λ _ _ _ t. t) old text new wrote }

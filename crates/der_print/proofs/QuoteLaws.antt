@@ -1,6 +1,6 @@
 -- Texts that are written one after another, and characters that are written as they are.
-use Rattle.std.proofs.Common.{◌≡◌, ◌∙◌, ◌∷◌, ◌++◌, ◌+◌, ◌<◌, ◌≤◌, ◌&&◌, ◌==◌, [], Bool, List, None, Option, Some, false, true, ℕ, ap, append-nil, append_assoc, arith, cond, length, refl, suc, sym, take, zero}
-use Rattle.std.specs.Prelude.{IsUtf8, encode_utf8, encode_utf8_all, find, map, nat_le, not, slice_index}
+use Rattle.std.proofs.Common.{◌≡◌, ◌∙◌, ◌∷◌, ◌++◌, ◌+◌, ◌<◌, ◌≤◌, ◌&&◌, ◌==◌, [], Bool, List, false, true, ℕ, ap, append-nil, append_assoc, arith, length, refl, suc, sym, take, zero}
+use Rattle.std.specs.Prelude.{IsUtf8, encode_utf8, encode_utf8_all, map, nat_le, not}
 use Rattle.std.specs.List.{concat, list_all}
 use Rattle.std.specs.Str.{IsAscii, chars}
 use Rattle.std.proofs.Math.Seq.{take-append_seam}
@@ -86,19 +86,9 @@ plain_octets (b ∷ w) h =
     let k = both_true (is_plain b) (list_all is_plain w) h in
     rw (plain_octet b k.0, plain_octets w k.1) refl
 
-none_in_front : (b : ℕ) (p : Bool) (f : Option ℕ) → None ≡ cond (not p) (Some b) f → (p ≡ true) × (None ≡ f)
-none_in_front b true f e = (refl, e)
-none_in_front b false f e = cc
-
-none_found : (w : List ℕ) → None ≡ find (λ b. not (is_plain b)) w → list_all is_plain w ≡ true
-none_found [] e = refl
-none_found (b ∷ w) e =
-    let k = none_in_front b (is_plain b) (find (λ b. not (is_plain b)) w) e in
-    rw (k.0, none_found w k.1) refl
-
 -- a text of plain ASCII
-pub plain_unescaped : (w : List ℕ) → None ≡ find (λ b. not (is_plain b)) w → list_all is_unescaped (chars w) ≡ true
-plain_unescaped w none = let h = none_found w none in rw (chars-IsAscii w (plain_ascii w h)) (plain_octets w h)
+pub plain_unescaped : (w : List ℕ) → list_all is_plain w ≡ true → list_all is_unescaped (chars w) ≡ true
+plain_unescaped w h = rw (chars-IsAscii w (plain_ascii w h)) (plain_octets w h)
 
 length_pieces : (cs : List ℕ) → length (map piece_text (map (λ c. Character c) cs)) ≡ length cs
 length_pieces cs = length-map (map (λ c. Character c) cs) piece_text ∙ length-map cs (λ c. Character c)

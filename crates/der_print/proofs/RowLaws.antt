@@ -1,6 +1,6 @@
 -- Octets with spaces in front.
-use Rattle.std.proofs.Common.{◌≡◌, ℕ, ◌+◌, ◌-◌, ◌≤◌, List, ◌++◌, min, take, drop, length, sym, ap, ◌∙◌, arith, append_assoc, drop-drop, take-append-drop, take-take}
-use Rattle.std.proofs.lemmas.List.{take-append-le, take-replicate, drop-replicate, drop-append-le, length-replicate}
+use Rattle.std.proofs.Common.{◌≡◌, ℕ, ◌+◌, ◌-◌, ◌≤◌, List, [], append-nil, ◌++◌, min, take, drop, length, sym, ap, ◌∙◌, arith, append_assoc, drop-drop, take-append-drop, take-take}
+use Rattle.std.proofs.lemmas.List.{take-append-le, take-replicate, drop-replicate, drop-append-le, length-replicate, replicate-append-replicate}
 use Rattle.der_base.specs.Pretty.{spaces}
 use Rattle.der_print.specs.Lines.{at_left, at_right}
 
@@ -53,3 +53,23 @@ at_left_of o text e s end columns free within ends long =
     let next : s + (end - s) ≡ end = omega arith in
     ap (λ w. drop s (take s o ++ (text ++ w))) (drop-drop (end - s) s o ∙ ap (λ n. drop n o) next)
     ∙ number_at_left_of o text e s end columns free within ends long
+
+-- texts before another, one by one
+in_front : (a b c d e f x : List ℕ) → (a ++ b ++ c ++ d ++ e ++ f) ++ x ≡ a ++ (b ++ (c ++ (d ++ (e ++ (f ++ x)))))
+in_front a b c d e f x =
+    append_assoc (a ++ b ++ c ++ d ++ e) f x ∙ append_assoc (a ++ b ++ c ++ d) e (f ++ x)
+    ∙ append_assoc (a ++ b ++ c) d (e ++ (f ++ x)) ∙ append_assoc (a ++ b) c (d ++ (e ++ (f ++ x)))
+    ∙ append_assoc a b (c ++ (d ++ (e ++ (f ++ x))))
+
+more_spaces : (n near : ℕ) → near ≤ n → spaces near ++ spaces (n - near) ≡ spaces n
+more_spaces n near few =
+    let all : near + (n - near) ≡ n = omega arith in
+    replicate-append-replicate {A = ℕ} near (n - near) 0x20 ∙ ap spaces all
+
+-- spaces of which the last were put apart
+pub spaces_apart : (a b c d e f : List ℕ) (n near : ℕ) → near ≤ n
+    → (a ++ (b ++ (c ++ (d ++ (e ++ (f ++ (spaces near ++ []))))))) ++ spaces (n - near) ≡ (a ++ b ++ c ++ d ++ e ++ f) ++ spaces n
+spaces_apart a b c d e f n near few =
+    ap (λ w. w ++ spaces (n - near)) (sym (in_front a b c d e f (spaces near ++ [])))
+    ∙ append_assoc (a ++ b ++ c ++ d ++ e ++ f) (spaces near ++ []) (spaces (n - near))
+    ∙ ap (λ w. (a ++ b ++ c ++ d ++ e ++ f) ++ w) (ap (λ w. w ++ spaces (n - near)) (append-nil (spaces near)) ∙ more_spaces n near few)

@@ -1,5 +1,5 @@
 -- A value after a space.
-use Rattle.std.proofs.Common.{◌≡◌, ℕ, List, ◌++◌, Option, Some, None, Result, codes}
+use Rattle.std.proofs.Common.{ℕ, List, ◌++◌, Option, Some, None, Result, codes}
 use Rattle.std.proofs.Output.{has_written_append}
 use Rattle.std.specs.Fmt.{DisplaysOnOk, HasWritten, IsPlainFormatter}
 use Rattle.std.specs.Option.{option_map}

@@ -1,5 +1,5 @@
 -- What is left of a string that is read character after character.
-use Rattle.std.specs.Prelude.{◌≡◌, ℕ, Option, List, [], ◌∷◌, map, MatchOption}
+use Rattle.std.specs.Prelude.{◌≡◌, Option, List, [], ◌∷◌, map, MatchOption}
 use Rattle.std.specs.Char.Utf16.{utf16_lossy_chars}
 use Rattle.std.specs.Str.{chars}
 use Rattle.der_base.specs.Text.{units}

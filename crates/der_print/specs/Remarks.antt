@@ -1,6 +1,6 @@
 -- What is said of a value that breaks its type.
 use Rattle.std.specs.Prelude.{◌≡◌, ℕ, ◌⊎◌, ◌==◌, not, if◌then◌else◌, Bool, true, false, Option, Some, None}
-use Rattle.std.specs.Prelude.{IsSome, List, [], ◌∷◌, ◌++◌, codes, decimal, find}
+use Rattle.std.specs.Prelude.{IsSome, List, [], ◌++◌, codes, decimal, find}
 use Rattle.der_base.specs.declared.rules.Rules.TheVariants.{Ber}
 use Rattle.der_base.specs.Text.{is_ia5, is_numeric, is_printable, is_visible}
 use Rattle.der_contents.specs.ContentErrors.{rule_text}

@@ -30,7 +30,7 @@ impl fmt::Display for Bits<'_> {
         };
         let columns = if *unused == 0 { 0 } else { UNUSED };
         let limit = self.limit.without(columns);
-        write!(f, "{}", Hex { octets, limit })?;
+        Hex { octets, limit }.fmt(f)?;
         write_unused(f, *unused)
     }
 }

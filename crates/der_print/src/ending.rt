@@ -1,11 +1,8 @@
 //! What follows the type on the line of an element.
-ghost use Rattle.std.specs.Prelude.{◌≡◌, IsTrue, None, Some, true};
-ghost use Rattle.std.specs.Fmt.{DisplaysOnOk};
-ghost use Rattle.std.specs.Option.{option_map};
+ghost use Rattle.std.specs.Prelude.{◌≡◌, ℕ, IsTrue, List, None, Some, true};
 ghost use Rattle.der_walk.specs.Walked.{visited_of};
-ghost use Rattle.der_print.specs.Lines.{IsEnding, IsValueSaid, after_spaces, limit_beside};
+ghost use Rattle.der_print.specs.Lines.{IsEnding, IsValueSaid, limit_beside};
 ghost use Rattle.der_print.specs.Names.{table_of};
-ghost use Rattle.der_print.specs.Remarks.{remark_text};
 ghost use Rattle.der_print.specs.Texts.{content_of};
 ghost use Rattle.der_print.specs.Writes.{WritesOne};
 
@@ -25,7 +22,6 @@ pub(crate) fn ends_with_type(element: &Element<'_>) -> bool
 }
 
 /// Writes what follows the type on the line of an element: its value, and what is said of one that breaks its type.
-#[inline(never)]
 pub(crate) fn write_ending<'n, W: fmt::Write>(
     f: &mut fmt::Formatter<W>,
     element: &Element<'_>,
@@ -53,28 +49,21 @@ fn write_value_said<'n, W: fmt::Write>(
     ensures { let v = visited_of element.now in let w = content_of element.now in
         WritesOne W.Write.write_str_gives f.old result (IsValueSaid (table_of own.entry) limit v w) f.new }
 {
-    let remark = Remark::on(element);
-    write_value(f, element, limit_beside(limit, remark), own)?;
-    write_remark(f, remark)
-}
-
-/// How much is printed of a value that something is said of: half of the columns are for the remark.
-fn limit_beside(limit: Limit, remark: Option<Remark<'_>>) -> Limit
-    ensures { result ≡ limit_beside limit (option_map remark_text remark.entry) }
-{
-    match limit {
-        Limit::Columns(columns) if remark.is_some() => Limit::Columns(columns / 2),
-        _ => limit,
+    match Remark::on(element) {
+        Some(remark) => {
+            write_value(f, element, beside(limit), own)?;
+            write!(f, "  {remark}")
+        }
+        None => write_value(f, element, limit, own),
     }
 }
 
-/// Writes a remark after two spaces.
-fn write_remark<W: fmt::Write>(f: &mut fmt::Formatter<W>, remark: Option<Remark<'_>>) -> fmt::Result
-    ensures { DisplaysOnOk W.Write.write_str_gives f.old result
-        (Some (after_spaces (option_map remark_text remark.entry))) f.new }
+/// How much is printed of a value that something is said of: half of the columns are for the remark.
+fn beside(limit: Limit) -> Limit
+    ensures { (remark : List ℕ) → result ≡ limit_beside limit (Some remark) }
 {
-    match remark {
-        Some(remark) => write!(f, "  {remark}"),
-        None => Ok(()),
+    match limit {
+        Limit::Columns(columns) => Limit::Columns(columns / 2),
+        Limit::Whole | Limit::Front => limit,
     }
 }

@@ -1,5 +1,6 @@
 //! What precedes the value on the line of an element.
 ghost use Rattle.std.specs.Prelude.{◌≡◌, ◌+◌, ◌*◌, ◌≤◌, ◌++◌, IfOk, OnOk, min};
+ghost use Rattle.der_walk.specs.TypeNames.{type_text};
 ghost use Rattle.der_walk.specs.Walked.{visited_of};
 ghost use Rattle.der_print.specs.Lines.{at_left, field_text, front_text, length_text, letters, limit_of, margin_text};
 ghost use Rattle.der_print.specs.Lines.{most_spaces};
@@ -8,8 +9,8 @@ ghost use Rattle.der_print.specs.Texts.{octets_in, row_text};
 
 use crate::line_octets::LineOctets;
 use crate::row::Row;
-use crate::style::{Limit, Style};
-use der_walk::{Element, MAX_DEPTH};
+use crate::style::Limit;
+use der_walk::{Element, MAX_DEPTH, TypeName};
 use std::alloc::AllocError;
 
 /// Begins dim letters (ECMA-48 8.3.117), after an escape character.
@@ -33,66 +34,68 @@ const LENGTH: usize = 7;
 /// The columns of the numbers, up to 10 million.
 const NUMBERS: usize = 19;
 
+/// The most spaces that are put together with the numbers.
+const NEAR: usize = 40;
+
 /// The most spaces before the name of a field and the type. No element has more than 100 around it.
 const MOST_SPACES: usize = 2 * MAX_DEPTH;
 
-/// A line that goes on with where an element begins, how many octets its header and its content have, two spaces
-/// for each element around it, the name of its field, and its type or tag, as much as fits. With it comes how much of
-/// the line is left.
-pub(crate) fn with_front(
-    line: LineOctets,
+/// Puts where an element begins, how many octets its header and its content have, two spaces for each element around
+/// it, the name of its field, and its type or tag, as much as fits in what is left of the line.
+pub(crate) fn put_front(
+    line: &mut LineOctets,
+    left: &mut Limit,
     element: &Element<'_>,
     field: &str,
-    style: Style,
-) -> Result<(LineOctets, Limit), AllocError>
-    ensures { let v = visited_of element.now in IfOk result (λ front.
-        (octets_in front.0 ≡ octets_in line ++ front_text style.colours style.limit field.now v)
-        × (front.1 ≡ limit_of style.limit field.now v)) }
+    colours: bool,
+) -> Result<(), AllocError>
+    ensures { let v = visited_of element.now in OnOk result (
+        (octets_in line.new ≡ octets_in line.old ++ front_text colours left.old field.now v)
+        × (left.new ≡ limit_of left.old field.now v)) }
 {
-    let colours = style.colours;
-    let mut line = line;
-    put_letters(&mut line, colours, DIM)?;
-    let limit = put_margin(&mut line, element, style.limit)?;
-    put_letters(&mut line, colours, PLAIN)?;
-    let limit = put_field(&mut line, field, limit)?;
-    put_letters(&mut line, colours, BOLD)?;
-    let start = line.len();
-    let mut line = line.with(element.name())?;
-    let limit = line.end_part(start, limit)?;
-    put_letters(&mut line, colours, PLAIN)?;
-    Ok((line, limit))
+    put_letters(line, colours, DIM)?;
+    put_margin(line, left, element)?;
+    put_letters(line, colours, PLAIN)?;
+    put_field(line, left, field)?;
+    put_letters(line, colours, BOLD)?;
+    put_type(line, left, element.name())?;
+    put_letters(line, colours, PLAIN)
 }
 
 /// Begins or ends special letters, if there are colours.
+#[inline(always)]
 fn put_letters(line: &mut LineOctets, colours: bool, code: &[u8]) -> Result<(), AllocError>
     ensures { OnOk result (octets_in line.new ≡ octets_in line.old ++ letters colours code.now) }
 {
     if colours {
-        line.put(b"\x1b")?;
-        return line.put(code);
+        return line.put_escaped(code);
     }
     Ok(())
 }
 
-/// Puts the offset and the numbers of octets, and two spaces for each element around. Returns how much of the line is
-/// left.
+/// Puts the offset and the numbers of octets, and two spaces for each element around.
 fn put_margin(
     line: &mut LineOctets,
+    left: &mut Limit,
     element: &Element<'_>,
-    limit: Limit,
-) -> Result<Limit, AllocError>
-    ensures { let text = margin_text limit (visited_of element.now) in
-        IfOk result (AddsPart limit text (octets_in line.old) (octets_in line.new)) }
+) -> Result<(), AllocError>
+    ensures { let text = margin_text left.old (visited_of element.now) in
+        OnOk result (AddsPart left.old text (octets_in line.old) (octets_in line.new) left.new) }
 {
+    let spaces = spaces_of(element.depth, *left);
+    let near = spaces.min(NEAR);
     let mut row = Row::new();
-    row.put_spaces(spaces_of(element.depth, limit));
+    row.put_spaces(near);
     row.put(b' ');
     put_length(&mut row, element.length);
     row.put(b'+');
     row.put_at_right(HEADER, element.header);
     row.put(b' ');
     row.put_at_right(OFFSET, element.offset);
-    line.put_part(row.as_bytes(), limit)
+    let start = line.len();
+    line.put(row.as_bytes())?;
+    line.put_spaces(spaces - near)?;
+    line.end_part(start, left)
 }
 
 /// How many spaces precede the name of a field and the type.
@@ -119,12 +122,26 @@ fn put_length(row: &mut Row, length: Option<usize>)
     }
 }
 
-/// Puts the name of a field and a space, or nothing if the name is empty. Returns how much of the line is left.
-fn put_field(line: &mut LineOctets, field: &str, limit: Limit) -> Result<Limit, AllocError>
-    ensures { IfOk result (AddsPart limit (field_text field.now) (octets_in line.old) (octets_in line.new)) }
+/// Puts the name of a field and a space, or nothing if the name is empty.
+fn put_field(line: &mut LineOctets, left: &mut Limit, field: &str) -> Result<(), AllocError>
+    ensures { let text = field_text field.now in
+        OnOk result (AddsPart left.old text (octets_in line.old) (octets_in line.new) left.new) }
 {
     if field.is_empty() {
-        return Ok(limit);
+        return Ok(());
     }
-    line.put_word(field.as_bytes(), limit)
+    line.put_word(field.as_bytes(), left)
+}
+
+/// Puts a type or tag.
+fn put_type(line: &mut LineOctets, left: &mut Limit, name: TypeName) -> Result<(), AllocError>
+    ensures { let text = type_text name.class name.number in
+        OnOk result (AddsPart left.old text (octets_in line.old) (octets_in line.new) left.new) }
+{
+    if let Some(text) = name.known() {
+        return line.put_part(text.as_bytes(), left);
+    }
+    let start = line.len();
+    line.put_text(name)?;
+    line.end_part(start, left)
 }

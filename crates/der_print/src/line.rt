@@ -5,7 +5,7 @@ ghost use Rattle.der_print.specs.Lines.{AddsFieldLine, AddsLine, AddsLineOf, Add
 ghost use Rattle.der_print.specs.Names.{table_of};
 ghost use Rattle.der_print.specs.Texts.{content_of};
 
-use crate::front::with_front;
+use crate::front::put_front;
 use crate::room::Room;
 use crate::style::Style;
 use der_walk::Element;
@@ -15,13 +15,13 @@ use std::io::Write;
 
 /// Writes the line of an element: where it begins, how many octets its header and its content have, its type, two
 /// columns further in for each element around it, and its value. If `style` limits the columns, the line has no more
-/// characters. It is made in `room`, which is returned for the next line.
+/// characters. It is made in `room`, which serves the next line too.
 pub fn write_line<W: Write>(
     out: &mut W,
-    room: Room,
+    room: &mut Room,
     element: &Element<'_>,
     style: Style,
-) -> io::Result<Room>
+) -> io::Result<()>
     ensures { OnOk result (AddsLine style (visited_of element.now) (content_of element.now)
         (W.contents out.old) (W.contents out.new)) }
 {
@@ -32,11 +32,11 @@ pub fn write_line<W: Write>(
 /// name adds nothing. The name has no line end: it is written as it is.
 pub fn write_field_line<W: Write>(
     out: &mut W,
-    room: Room,
+    room: &mut Room,
     element: &Element<'_>,
     field: &str,
     style: Style,
-) -> io::Result<Room>
+) -> io::Result<()>
     ensures { OnOk result (AddsFieldLine field.now style (visited_of element.now) (content_of element.now)
         (W.contents out.old) (W.contents out.new)) }
 {
@@ -47,11 +47,11 @@ pub fn write_field_line<W: Write>(
 /// own, if there is one and it has the identifier, or else the built-in one.
 pub fn write_named_line<'n, W: Write>(
     out: &mut W,
-    room: Room,
+    room: &mut Room,
     element: &Element<'_>,
     style: Style,
     own: Option<&'n OwnNames<'n>>,
-) -> io::Result<Room>
+) -> io::Result<()>
     ensures { OnOk result (AddsNamedLine (table_of own.entry) style (visited_of element.now) (content_of element.now)
         (W.contents out.old) (W.contents out.new)) }
 {
@@ -62,18 +62,21 @@ pub fn write_named_line<'n, W: Write>(
 /// IDENTIFIER by a table of one's own as `write_named_line` does.
 pub fn write_line_of<'n, W: Write>(
     out: &mut W,
-    room: Room,
+    room: &mut Room,
     element: &Element<'_>,
     field: &str,
     style: Style,
     own: Option<&'n OwnNames<'n>>,
-) -> io::Result<Room>
+) -> io::Result<()>
     ensures { OnOk result (AddsLineOf (table_of own.entry) field.now style (visited_of element.now)
         (content_of element.now) (W.contents out.old) (W.contents out.new)) }
 {
-    let (front, limit) = with_front(room.line.cleared(), element, field, style)?;
-    let mut line = front.with_ending(element, limit, own)?;
-    line.put(b"\n")?;
+    let line = &mut room.line;
+    line.clear();
+    let mut left = style.limit;
+    put_front(line, &mut left, element, field, style.colours)?;
+    line.put_ending(element, left, own)?;
+    line.push(b'\n')?;
     out.write_all(line.as_bytes())?;
-    Ok(Room { line })
+    Ok(())
 }

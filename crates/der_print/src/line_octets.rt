@@ -1,9 +1,9 @@
 //! The octets of a line, which grow at their end.
-ghost use Rattle.std.specs.Prelude.{◌≡◌, [], ◌++◌, IfOk, IfSome, OnOk, codes, drop, length, take};
+ghost use Rattle.std.specs.Prelude.{◌≡◌, ◌≤◌, [], ◌∷◌, ◌++◌, IfOk, IfSome, OnOk, codes, drop, length, take};
+ghost use Rattle.der_base.specs.Pretty.{spaces};
 ghost use Rattle.der_print.specs.Cuts.{cut, in_columns};
 ghost use Rattle.der_print.specs.Names.{table_of};
-ghost use Rattle.der_print.specs.Parts.{AddsEnding, AddsPart};
-ghost use Rattle.der_print.specs.Shown.{IsShown};
+ghost use Rattle.der_print.specs.Parts.{AddsEnding, AddsPart, GrowsByEnding};
 ghost use Rattle.der_print.specs.Texts.{content_of, octets_in};
 ghost use Rattle.der_walk.specs.Walked.{visited_of};
 
@@ -15,9 +15,16 @@ use der_walk::Element;
 use oid_names::OwnNames;
 use std::alloc::{AllocError, Global};
 use std::fmt;
+use std::fmt::Write;
 
 /// The points after the first characters of a text.
 const POINTS: &[u8] = b"...";
+
+/// Spaces.
+const SPACES: &[u8; 200] = &[b' '; 200];
+
+/// The escape character.
+const ESCAPE: u8 = 0x1b;
 
 /// The octets of a line, which grow at their end.
 #[derive(Drop)]
@@ -35,13 +42,11 @@ impl LineOctets {
         }
     }
 
-    /// No octets, in the memory of these.
-    pub(crate) fn cleared(self) -> LineOctets
-        ensures { octets_in result ≡ [] }
+    /// Takes all octets away, and keeps their memory.
+    pub(crate) fn clear(&mut self)
+        ensures { octets_in self.new ≡ [] }
     {
-        let mut octets = self.octets;
-        octets.clear();
-        LineOctets { octets }
+        self.octets.clear();
     }
 
     /// The octets.
@@ -65,90 +70,142 @@ impl LineOctets {
         self.octets.extend_from_slice(octets)
     }
 
-    /// Puts a part of the line at the end, as much of it as fits. Returns how much of the line is left.
-    pub(crate) fn put_part(&mut self, text: &[u8], limit: Limit) -> Result<Limit, AllocError>
-        ensures { IfOk result (AddsPart limit text.now (octets_in self.old) (octets_in self.new)) }
+    /// Puts octets at the end. To push one costs less than to copy a slice.
+    fn put_few(&mut self, octets: &[u8]) -> Result<(), AllocError>
+        ensures { OnOk result (octets_in self.new ≡ octets_in self.old ++ octets.now) }
+    {
+        match octets {
+            [octet] => self.push(*octet),
+            _ => self.put(octets),
+        }
+    }
+
+    /// Puts an octet at the end.
+    pub(crate) fn push(&mut self, octet: u8) -> Result<(), AllocError>
+        ensures { OnOk result (octets_in self.new ≡ octets_in self.old ++ octet ∷ []) }
+    {
+        self.octets.push(octet)?;
+        Ok(())
+    }
+
+    /// Puts so many spaces at the end, at most 200.
+    pub(crate) fn put_spaces(&mut self, count: usize) -> Result<(), AllocError>
+        requires { count ≤ 200 }
+        ensures { OnOk result (octets_in self.new ≡ octets_in self.old ++ spaces count) }
+    {
+        if count == 0 {
+            return Ok(());
+        }
+        self.put(&SPACES[..count])
+    }
+
+    /// Puts an escape character and octets at the end.
+    #[inline(never)]
+    pub(crate) fn put_escaped(&mut self, octets: &[u8]) -> Result<(), AllocError>
+        ensures { OnOk result (octets_in self.new ≡ octets_in self.old ++ 0x1b ∷ octets.now) }
+    {
+        self.push(ESCAPE)?;
+        self.put(octets)
+    }
+
+    /// Puts a part of the line at the end, as much of it as fits in what is left of the line.
+    pub(crate) fn put_part(&mut self, text: &[u8], left: &mut Limit) -> Result<(), AllocError>
+        ensures { OnOk result (AddsPart left.old text.now (octets_in self.old) (octets_in self.new) left.new) }
     {
         let start = self.len();
         self.put(text)?;
-        self.end_part(start, limit)
+        self.end_part(start, left)
     }
 
-    /// Puts a word and a space at the end, as much of them as fits. Returns how much of the line is left.
-    pub(crate) fn put_word(&mut self, word: &[u8], limit: Limit) -> Result<Limit, AllocError>
-        ensures { IfOk result (AddsPart limit (word.now ++ codes " ") (octets_in self.old) (octets_in self.new)) }
+    /// Puts a word and a space at the end, as much of them as fits in what is left of the line.
+    pub(crate) fn put_word(&mut self, word: &[u8], left: &mut Limit) -> Result<(), AllocError>
+        ensures { OnOk result
+            (AddsPart left.old (word.now ++ codes " ") (octets_in self.old) (octets_in self.new) left.new) }
     {
         let start = self.len();
         self.put(word)?;
-        self.put(b" ")?;
-        self.end_part(start, limit)
+        self.push(b' ')?;
+        self.end_part(start, left)
     }
 
-    /// The octets, and after them the text of a value.
-    pub(crate) fn with<D: fmt::Display + Drop>(self, value: D) -> Result<LineOctets, AllocError>
-        ensures { IfOk result (λ l. IfSome (D.output value) (λ text. octets_in l ≡ octets_in self ++ text)) }
+    /// Puts the text of a value at the end.
+    pub(crate) fn put_text<D: fmt::Display + Drop>(&mut self, value: D) -> Result<(), AllocError>
+        ensures { OnOk result (IfSome (D.output value) (λ text.
+            octets_in self.new ≡ octets_in self.old ++ text)) }
     {
-        let mut f = fmt::Formatter::new(self);
-        match f.write(value) {
-            Ok(()) => Ok(f.into_inner()),
+        match self.write(value) {
+            Ok(()) => Ok(()),
             Err(_) => Err(AllocError),
         }
     }
 
-    /// The octets, and after them what follows the type on the line of an element, as much of it as fits. An error if
-    /// there is no memory, or if a control character of ASCII is in that: so it is on one line.
-    pub(crate) fn with_ending<'n>(
-        self,
+    /// Puts what follows the type on the line of an element at the end, as much of it as fits. An error if there is no
+    /// memory, or if a control character of ASCII is in that: so it is on one line.
+    pub(crate) fn put_ending<'n>(
+        &mut self,
         element: &Element<'_>,
         limit: Limit,
         own: Option<&'n OwnNames<'n>>,
-    ) -> Result<LineOctets, AllocError>
+    ) -> Result<(), AllocError>
         ensures { let v = visited_of element.now in let w = content_of element.now in
-            IfOk result (λ l. AddsEnding (table_of own.entry) limit v w (octets_in self) (octets_in l)) }
+            OnOk result (AddsEnding (table_of own.entry) limit v w (octets_in self.old) (octets_in self.new)) }
     {
         if ends_with_type(element) {
-            return Ok(self);
+            return Ok(());
         }
         let start = self.len();
-        let mut f = fmt::Formatter::new(self);
-        match write_ending(&mut f, element, limit, own) {
-            Ok(()) => f.into_inner().with_shown(start, limit),
+        self.write_ending(element, limit, own)?;
+        if !are_shown(self.octets_from(start)) {
+            return Err(AllocError);
+        }
+        let mut left = limit;
+        self.end_part(start, &mut left)
+    }
+
+    /// Puts what follows the type on the line of an element at the end.
+    fn write_ending<'n>(
+        &mut self,
+        element: &Element<'_>,
+        limit: Limit,
+        own: Option<&'n OwnNames<'n>>,
+    ) -> Result<(), AllocError>
+        ensures { let v = visited_of element.now in let w = content_of element.now in
+            OnOk result (GrowsByEnding (table_of own.entry) limit v w self.old self.new) }
+    {
+        let mut f = fmt::Formatter::new(&mut *self);
+        let written = write_ending(&mut f, element, limit, own);
+        f.into_inner();
+        match written {
+            Ok(()) => Ok(()),
             Err(_) => Err(AllocError),
         }
     }
 
-    /// The octets, of which as many of those from an offset on as fit. An error if one of them is a control character
-    /// of ASCII.
-    fn with_shown(self, start: usize, limit: Limit) -> Result<LineOctets, AllocError>
-        ensures { let text = drop start (octets_in self) in IfOk result (λ l. IsShown text
-            × (octets_in l ≡ take start (octets_in self) ++ cut limit text)) }
+    /// Ends the last part of the line, which begins at an offset: as much of it stays as fits in what is left of the
+    /// line.
+    #[inline(always)]
+    pub(crate) fn end_part(&mut self, start: usize, left: &mut Limit) -> Result<(), AllocError>
+        ensures { let old = octets_in self.old in
+            OnOk result (AddsPart left.old (drop start old) (take start old) (octets_in self.new) left.new) }
     {
-        if !are_shown(self.octets_from(start)) {
-            return Err(AllocError);
+        if let Limit::Columns(columns) = *left {
+            *left = self.end_columns(start, columns)?;
         }
-        let mut line = self;
-        line.end_part(start, limit)?;
-        Ok(line)
+        Ok(())
     }
 
-    /// Ends the last part of the line, which begins at an offset: as much of it stays as fits. Returns how much of the
-    /// line is left.
-    pub(crate) fn end_part(&mut self, start: usize, limit: Limit) -> Result<Limit, AllocError>
+    /// Ends the last part of the line, which begins at an offset, where so many columns are left.
+    #[inline(never)]
+    fn end_columns(&mut self, start: usize, columns: usize) -> Result<Limit, AllocError>
         ensures { let old = octets_in self.old in
-            IfOk result (AddsPart limit (drop start old) (take start old) (octets_in self.new)) }
+            IfOk result (AddsPart (Limit.Columns columns) (drop start old) (take start old) (octets_in self.new)) }
     {
-        match limit {
-            Limit::Columns(columns) => {
-                self.cut(start, columns)?;
-                let part = self.len().saturating_sub(start);
-                Ok(Limit::Columns(columns.saturating_sub(part)))
-            }
-            _ => Ok(limit),
-        }
+        self.cut(start, columns)?;
+        let part = self.len().saturating_sub(start);
+        Ok(Limit::Columns(columns.saturating_sub(part)))
     }
 
     /// Cuts the octets from an offset on to so many columns.
-    #[inline(never)]
     fn cut(&mut self, start: usize, columns: usize) -> Result<(), AllocError>
         ensures { let old = octets_in self.old in OnOk result
             (octets_in self.new ≡ take start old ++ in_columns columns (drop start old)) }
@@ -181,7 +238,7 @@ impl fmt::Write for LineOctets {
     ghost write_str_gives = { λ l text m. octets_in m ≡ octets_in l ++ text };
 
     fn write_str(&mut self, text: &str) -> fmt::Result {
-        match self.put(text.as_bytes()) {
+        match self.put_few(text.as_bytes()) {
             Ok(()) => Ok(()),
             Err(_) => Err(fmt::Error),
         }

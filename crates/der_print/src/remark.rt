@@ -37,6 +37,7 @@ pub struct BrokenRule<'a> {
 impl<'a> Remark<'a> {
     /// What is said of an element: the first rule of BER that its content breaks, if it is one that breaks its type,
     /// and else where the list inside a string is at fault, if none of it is visited.
+    #[inline(always)]
     pub fn on(element: &Element<'a>) -> Option<Remark<'a>>
         ensures { IsRemark (visited_of element.now) (content_of element.now) (option_map remark_text result) }
     {

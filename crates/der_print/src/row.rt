@@ -6,7 +6,7 @@ ghost use Rattle.der_print.specs.Lines.{at_left, at_right};
 use itoa::write_digits;
 
 /// The most octets that a text has.
-const ROOM: usize = 264;
+const ROOM: usize = 104;
 
 /// A text that is written from its end. The octets before it are spaces.
 #[derive(Drop)]
@@ -14,7 +14,7 @@ pub(crate) struct Row {
     octets: [u8; ROOM],
     /// Where the text begins.
     start: usize,
-    ghost within: { start ≤ 264 },
+    ghost within: { start ≤ 104 },
     ghost free: { take start octets ≡ spaces start },
 }
 
@@ -24,7 +24,7 @@ impl Row {
     /// An empty text.
     pub(crate) fn new() -> Row
         ensures text { row_text result ≡ [] }
-        ensures room { result.start ≡ 264 }
+        ensures room { result.start ≡ 104 }
     {
         Row {
             octets: [b' '; ROOM],

@@ -5,7 +5,7 @@ ghost use Rattle.std.specs.Option.{option_map};
 
 use std::fmt;
 
-/// Writes a value after a space. It costs less than a format of both.
+/// Writes a value after a space, which costs less than a format of both.
 pub(crate) fn write_spaced<W: fmt::Write, D: fmt::Display + Drop>(
     f: &mut fmt::Formatter<W>,
     value: D,
@@ -14,5 +14,5 @@ pub(crate) fn write_spaced<W: fmt::Write, D: fmt::Display + Drop>(
         (option_map (λ text. codes " " ++ text) (D.output value)) f.new }
 {
     f.write_str(" ")?;
-    f.write(value)
+    value.fmt(f)
 }

@@ -1,5 +1,5 @@
 //! The texts of the string types (X.690 8.23).
-ghost use Rattle.std.specs.Prelude.{◌≡◌, IsTrue, Some, find, map, not, true};
+ghost use Rattle.std.specs.Prelude.{◌≡◌, Some, map};
 ghost use Rattle.std.specs.Fmt.{DisplaysOnOk};
 ghost use Rattle.std.specs.List.{list_all};
 ghost use Rattle.std.specs.Str.{chars};
@@ -160,7 +160,7 @@ pub(crate) fn write_text<W: fmt::Write>(
     ensures { WritesFirst W.Write.write_str_gives f.old result most
         (map piece_text (map (λ c. Piece.Character c) (chars text.now))) f.new }
 {
-    if text.len() <= most && is_seen_unescaped(text) {
+    if text.len() <= most && is_unescaped_text(text) {
         f.write_str(text)?;
         return Ok(true);
     }
@@ -187,25 +187,25 @@ fn write_characters<W: fmt::Write>(
     Ok(true)
 }
 
-/// Whether it is seen at once that the characters of a text are written as they are. False says nothing.
-fn is_seen_unescaped(text: &str) -> bool
-    ensures { IsTrue result → list_all is_unescaped (chars text.now) ≡ true }
-{
-    match first_other(text.as_bytes()) {
-        None => true,
-        Some(octet) if octet.is_ascii() => false,
-        Some(_) => are_unescaped(text),
-    }
-}
-
-/// The first octet that isn't ASCII that is written as it is.
-fn first_other(octets: &[u8]) -> Option<u8>
-    ensures { result ≡ find (λ b. not (is_plain b)) octets.now }
-{
-    octets.iter().copied().find(|octet| !is_plain(*octet))
-}
-
 /// Whether the characters of a text are written as they are.
+fn is_unescaped_text(text: &str) -> bool
+    ensures { result ≡ list_all is_unescaped (chars text.now) }
+{
+    are_plain(text.as_bytes()) || are_unescaped(text)
+}
+
+/// Whether octets are ASCII that is written as it is. All are read, since that takes many at once.
+fn are_plain(octets: &[u8]) -> bool
+    ensures { result ≡ list_all is_plain octets.now }
+{
+    let mut plain = true;
+    for octet in octets {
+        plain &= is_plain(*octet);
+    }
+    plain
+}
+
+/// Whether all characters of a text are written as they are.
 fn are_unescaped(text: &str) -> bool
     ensures { result ≡ list_all is_unescaped (chars text.now) }
 {

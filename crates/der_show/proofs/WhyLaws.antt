@@ -1,9 +1,8 @@
 -- What can be said of an error, where the refused element has a place or none.
-use Rattle.std.proofs.Common.{◌≡◌, ℕ, None, Option, Some, ap, refl, subst, sym, ◌∙◌}
+use Rattle.std.proofs.Common.{◌≡◌, ℕ, Option, Some, ap, refl, subst, sym, ◌∙◌}
 use Rattle.std.specs.Borrow.{Bor}
 use Rattle.std.specs.Option.{option_copied}
 use Rattle.certificate_text.specs.declared.why.Why.{Why}
-use Rattle.certificate_text.specs.declared.why.Why.TheVariants.{AsRead}
 use Rattle.certificate_text.specs.Why.{why_of}
 use Rattle.der_base.specs.declared.error.Error.{Error as BerError}
 use Rattle.der_base.specs.declared.header.Class.{Class}
@@ -29,8 +28,3 @@ why_there r place w n {wrong = wrong} {why = why} here same class number h q =
       h,
       q ∙ ap (λ x. why_of x (Some n) wrong) same ∙ ap (λ x. why_of (refusal_of r) (Some x) wrong) named,
     )
-
-pub why_nowhere : (r : Refused) (place : Option (Bor Place)) {e : Refusal BerError} {why : Why} → place ≡ None
-    → e ≡ refusal_of r → why ≡ why_of e None AsRead → IsWhy r (option_copied place) why
-why_nowhere r place {why = why} none same q =
-    subst (λ p. IsWhy r (option_copied p) why) (sym none) (q ∙ ap (λ x. why_of x None AsRead) same)

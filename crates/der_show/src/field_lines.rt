@@ -1,6 +1,6 @@
 //! The lines of octets that are of a known type. Of what is secret no value is written, and certificates, lists of
 //! revoked certificates and requests are written in words.
-ghost use Rattle.std.specs.Prelude.{◌≡◌, ◌++◌, IfOk, List, ℕ};
+ghost use Rattle.std.specs.Prelude.{◌≡◌, ◌++◌, IfOk, List, OnOk, ℕ};
 ghost use Rattle.der_fields.specs.Fields.{label_text};
 ghost use Rattle.der_print.specs.Lines.{IsFieldLine};
 ghost use Rattle.der_print.specs.Texts.{content_of};
@@ -70,7 +70,15 @@ pub(crate) fn with_lines(
                 let is_secret = is_secret(schema.name, field, element.holds.is_some());
                 let manner = Manner::of(leaf, octets, &element, is_secret);
                 leaf = manner.leaf_past(leaf, element.depth);
-                room = add_element(&mut written, alloc, room, &element, field, &manner, now)?;
+                add_element(
+                    &mut written,
+                    alloc,
+                    &mut room,
+                    &element,
+                    field,
+                    &manner,
+                    now,
+                )?;
             }
             Ok(None) => return Ok(written),
             // Octets that are of a type are elements.
@@ -93,24 +101,20 @@ fn text_of(name: Option<Name>) -> &'static str
 fn add_element(
     written: &mut Written,
     alloc: Global,
-    room: Room,
+    room: &mut Room,
     element: &Element<'_>,
     field: &str,
     manner: &Manner<'_>,
     now: Option<u64>,
-) -> Result<Room, AllocError>
-    ensures { IfOk result (λ r. AddsShown now manner.now field.now element.now written.old written.new) }
+) -> Result<(), AllocError>
+    ensures { OnOk result (AddsShown now manner.now field.now element.now written.old written.new) }
 {
     match manner {
-        Manner::InLeaf => Ok(room),
-        Manner::Secret => {
-            let room = add_leaf_line(&mut written.lines, room, element, field, SECRET)?;
-            Ok(room)
-        }
+        Manner::InLeaf => Ok(()),
+        Manner::Secret => add_leaf_line(&mut written.lines, room, element, field, SECRET),
         Manner::InWords(octets, known) => {
-            let room = add_leaf_line(&mut written.lines, room, element, field, IN_WORDS)?;
-            add_words(written, alloc, octets, known, now)?;
-            Ok(room)
+            add_leaf_line(&mut written.lines, room, element, field, IN_WORDS)?;
+            add_words(written, alloc, octets, known, now)
         }
         Manner::Plain => add_plain_line(&mut written.lines, room, element, field),
     }
@@ -119,16 +123,16 @@ fn add_element(
 /// Adds the line of an element.
 fn add_plain_line(
     text: &mut Vec<u8>,
-    room: Room,
+    room: &mut Room,
     element: &Element<'_>,
     field: &str,
-) -> Result<Room, AllocError>
-    ensures { IfOk result (λ r. (line : List ℕ)
+) -> Result<(), AllocError>
+    ensures { OnOk result ((line : List ℕ)
         × IsFieldLine field.now fields_style (visited_of element.now) (content_of element.now) line
         × (text.new.items ≡ text.old.items ++ line)) }
 {
     match write_field_line(text, room, element, field, STYLE) {
-        Ok(room) => Ok(room),
+        Ok(()) => Ok(()),
         Err(_) => Err(AllocError),
     }
 }
@@ -136,23 +140,23 @@ fn add_plain_line(
 /// Adds the line of an element without its value, as that of a constructed one, which has none, with this end.
 fn add_leaf_line(
     text: &mut Vec<u8>,
-    room: Room,
+    room: &mut Room,
     element: &Element<'_>,
     field: &str,
     end: &[u8],
-) -> Result<Room, AllocError>
-    ensures { IfOk result (λ r.
-        text.new.items ≡ text.old.items ++ leaf_line end.now field.now (visited_of element.now)) }
+) -> Result<(), AllocError>
+    ensures { OnOk result
+        (text.new.items ≡ text.old.items ++ leaf_line end.now field.now (visited_of element.now)) }
 {
     let without_value = Element {
         constructed: true,
         holds: None,
         ..*element
     };
-    let room = add_plain_line(text, room, &without_value, field)?;
+    add_plain_line(text, room, &without_value, field)?;
     text.pop();
     text.extend_from_slice(end)?;
-    Ok(room)
+    Ok(())
 }
 
 /// Adds the words of what octets are.
@@ -163,7 +167,7 @@ fn add_words(
     known: &Known<'_>,
     now: Option<u64>,
 ) -> Result<(), AllocError>
-    ensures { IfOk result (λ r. AddsWords now octets.now known.now written.old written.new) }
+    ensures { OnOk result (AddsWords now octets.now known.now written.old written.new) }
 {
     let text = text_of_known(alloc, octets, known, now)?;
     written.words.extend_from_slice(&text)?;

@@ -31,7 +31,7 @@ pub fn named_line(alloc: Global, input: &[u8], words: &str) -> Result<String, Fa
         colours: false,
     };
     let mut line = Vec::new(alloc);
-    if write_named_line(&mut line, Room::new(alloc), &element, style, Some(&names)).is_err() {
+    if write_named_line(&mut line, &mut Room::new(alloc), &element, style, Some(&names)).is_err() {
         return Err(Fault::OutOfMemory);
     }
     let text = str::from_utf8(&line).unwrap_or("no UTF-8");

@@ -212,7 +212,7 @@ fn line_of(alloc: Global, octets: &[u8], limit: Limit) -> io::Result<Vec<u8>> {
     };
     let mut walk = Walk::new(octets, Rules::Ber, false);
     if let Ok(Some(element)) = walk.next_element() {
-        write_line(&mut out, Room::new(alloc), &element, style)?;
+        write_line(&mut out, &mut Room::new(alloc), &element, style)?;
     }
     Ok(out)
 }

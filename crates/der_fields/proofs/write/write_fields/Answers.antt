@@ -24,7 +24,7 @@ elements-preserved g c =
     let named = c.name_of-name.ensures sc i p.elements p.named next.3 in
     record {
       so = written_more e c.name_of-name.result _ _ p next.0 next.1 named c.text_of.ensures c.left_past-left.ensures
-          c.in_ok-room-in-Ok-Some.ensures;
+          c.in_ok-write_line_of-in-Ok-Some.ensures;
     }
 
 pub returns-in-Ok-None-clause-writes : goal.returns-in-Ok-None-clause-writes

@@ -1,5 +1,5 @@
-use Rattle.std.proofs.Common.{◌≡◌, ◌++◌, take, drop, append-nil, sym, ap, ◌∙◌, true, false, arith}
-use Rattle.std.proofs.Math.Seq.{take-length, take_all}
+use Rattle.std.proofs.Common.{◌++◌, take, drop, sym, ap, ◌∙◌, true, false, arith}
+use Rattle.std.proofs.Math.Seq.{take-length}
 use Rattle.std.specs.Fmt.{take_chars}
 use Rattle.der_print.proofs.CutLaws.{first_stops, first_keeps, first_at_end}
 use Rattle.der_print.proofs.cut.end_of.Goals as goal

@@ -1,7 +1,5 @@
-use Rattle.std.proofs.Common.{◌∙◌, ◌∷◌, ap, arith, sym}
+use Rattle.std.proofs.Common.{◌∙◌, ap, arith, sym}
 use Rattle.std.specs.Prelude.{map}
-use Rattle.std.specs.Char.Utf16.{utf16_lossy_chars}
-use Rattle.der_base.specs.Text.{units}
 use Rattle.der_print.specs.declared.pieces.Piece.TheVariants.{Character}
 use Rattle.der_print.proofs.PieceLaws.{last_goes, lone_goes, pair_goes}
 use Rattle.der_print.proofs.pieces.next_of_unit.Goals as goal

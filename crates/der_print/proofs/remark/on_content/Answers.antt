@@ -1,4 +1,4 @@
-use Rattle.std.proofs.Common.{ap, inl, rules, subst}
+use Rattle.std.proofs.Common.{ap, inl, subst}
 use Rattle.der_base.specs.declared.rules.Rules.TheVariants.{Ber}
 use Rattle.der_contents.specs.ContentRules.{IsContent, IsFirstBroken, content_rules}
 use Rattle.der_print.specs.Remarks.{rule_of_content}

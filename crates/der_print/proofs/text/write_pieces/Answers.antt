@@ -1,4 +1,4 @@
-use Rattle.std.proofs.Common.{◌≡◌, ◌≤◌, ◌∙◌, ◌∷◌, ◌++◌, [], ap, arith, length, refl, sym}
+use Rattle.std.proofs.Common.{◌≡◌, ◌≤◌, ◌∙◌, ◌∷◌, ◌++◌, [], ap, arith, length, refl}
 use Rattle.std.proofs.Output.{has_written_append, has_written_of_eq}
 use Rattle.std.specs.Prelude.{map}
 use Rattle.der_print.specs.Quotes.{piece_text}

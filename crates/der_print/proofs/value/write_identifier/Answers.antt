@@ -1,4 +1,4 @@
-use Rattle.std.proofs.Common.{◌≡◌, ◌++◌, Some, codes, false, refl}
+use Rattle.std.proofs.Common.{◌++◌, Some, codes, false, refl}
 use Rattle.std.proofs.Output.{has_written_append}
 use Rattle.der_print.specs.Names.{name_text}
 use Rattle.der_print.specs.Values.{identifier_text}

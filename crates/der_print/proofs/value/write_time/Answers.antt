@@ -1,4 +1,4 @@
-use Rattle.std.proofs.Common.{◌≡◌, ◌∷◌, ◌++◌, ◌==◌, None, Some, codes, refl}
+use Rattle.std.proofs.Common.{◌≡◌, ◌++◌, ◌==◌, None, Some, codes, refl}
 use Rattle.der_print.specs.Quotes.{quoted_text}
 use Rattle.der_print.specs.Values.{moment, moment_text, no_moment}
 use Rattle.der_print.proofs.value.write_time.Goals as goal

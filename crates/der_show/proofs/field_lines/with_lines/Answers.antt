@@ -26,7 +26,7 @@ elements-preserved c =
     record {
       so = shown_more c.in-Ok-Some.element c.name_of.result c.text_of-field.result.now c.is_secret-is_secret.result
           c.of-manner.result p next.0 next.1 named c.text_of-field.ensures is_secret c.of-manner.ensures
-          c.in_ok-room-in-Ok-Some.ensures c.leaf_past-leaf.ensures;
+          c.in_ok-add_element-in-Ok-Some.ensures c.leaf_past-leaf.ensures;
     }
 
 pub returns-in-Ok-None : goal.returns-in-Ok-None

@@ -8,9 +8,12 @@ pub returns : goal.returns
 returns c =
     let w = octets_in c.args.self.now in
     let text = c.args.word.now ++ codes " " in
-    let limit = c.args.limit in
+    let limit = c.args.left.now in
+    let left = c.end_part.new.left in
     let start = c.len-start.result in
-    let all = octets_in c.put-2.new.self in
+    let all = octets_in c.push.new.self in
     let new = octets_in c.end_part.new.self in
-    ok_then c.end_part.result (AddsPart limit (drop start all) (take start all) new) (AddsPart limit text w new)
-    (λ rest ends. part_ended limit rest w text all new start c.len-start.ensures (c.in_ok-put-2.ensures ∙ ap (λ v. v ++ codes " ") c.in_ok-put.ensures ∙ append_assoc w c.args.word.now (codes " ")) ends) c.end_part.ensures
+    let put = c.in_ok-push.ensures ∙ ap (λ v. v ++ codes " ") c.in_ok-put.ensures ∙ append_assoc w c.args.word.now (codes " ") in
+    ok_then c.end_part.result (λ _. AddsPart limit (drop start all) (take start all) new left)
+    (λ _. AddsPart limit text w new left)
+    (λ _ ends. part_ended limit left w text all new start c.len-start.ensures put ends) c.end_part.ensures

@@ -1,4 +1,4 @@
-use Rattle.std.proofs.Common.{◌-◌, decimal, drop, ap, ◌∙◌, arith, rules}
+use Rattle.std.proofs.Common.{◌-◌, decimal, drop, ap, ◌∙◌, arith}
 use Rattle.std.proofs.lemmas.Fmt.{length-decimal-le}
 use Rattle.der_print.proofs.RowLaws.{number_at_left_of, spaces_then, written}
 use Rattle.der_print.proofs.row.Row.put_number_at_left.Goals as goal
