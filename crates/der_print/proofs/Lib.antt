@@ -1,3 +1,4 @@
+pub mod AllLaws
 pub mod CutLaws
 pub mod FitLaws
 pub mod FrontLaws
