@@ -20,7 +20,7 @@ use std::fmt::Write;
 /// The points after the first characters of a text.
 const POINTS: &[u8] = b"...";
 
-/// Spaces.
+/// As many spaces as an indentation has at most.
 const SPACES: &[u8; 200] = &[b' '; 200];
 
 /// The escape character.

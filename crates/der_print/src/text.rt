@@ -187,7 +187,7 @@ fn write_characters<W: fmt::Write>(
     Ok(true)
 }
 
-/// Whether the characters of a text are written as they are.
+/// Whether the characters of a text are written as they are. Most texts are ASCII, of which it is found at once.
 fn is_unescaped_text(text: &str) -> bool
     ensures { result ≡ list_all is_unescaped (chars text.now) }
 {
@@ -205,7 +205,7 @@ fn are_plain(octets: &[u8]) -> bool
     plain
 }
 
-/// Whether all characters of a text are written as they are.
+/// The same, character by character.
 fn are_unescaped(text: &str) -> bool
     ensures { result ≡ list_all is_unescaped (chars text.now) }
 {
