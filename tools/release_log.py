@@ -13,6 +13,8 @@ EDIT = re.compile(r"rt: .*: refused, as it must be.*")
 # What .ci/run prints of itself: the commit first, and last how many passed of each part
 COMMIT = re.compile(r"commit ([0-9a-f]{40})")
 PART = re.compile(r"of ([a-z -]+): (\d+)")
+# What `tools/wrong-bodies --anew` prints before its last line
+EDITS = re.compile(r"commit ([0-9a-f]{40}): (\d+) edits refused anew, of which 0 are recorded; 0 as recorded; 0 neither .*")
 
 
 @dataclasses.dataclass
@@ -28,6 +30,8 @@ class Gate:
     kept: list
     edits: int
     logics: set
+    # How many wrong bodies were refused anew, by the log of another run
+    refused_anew: int = 0
 
 
 def read_log(text):
@@ -48,6 +52,16 @@ def read_log(text):
     kept = [it[1] for it in found(KEPT)]
     commit = commits[0] if commits else None
     return Gate(int(last[1]), commit, parts, functions, axioms, kept, int(passed[-1][1] or len(found(EDIT))), logics)
+
+
+def read_edits_log(text):
+    """Reads the log of a `tools/wrong-bodies --anew`, and returns the commit and how many edits were refused. A
+    ValueError says why it is none that passed."""
+    found = next((it for it in map(EDITS.fullmatch, text.split("\n")) if it), None)
+    last = LAST.fullmatch(text.rstrip("\n").split("\n")[-1])
+    if not found or not last or last[1] != found[2]:
+        raise ValueError("it isn't what `tools/wrong-bodies --anew` prints where each edit is refused")
+    return found[1], int(found[2])
 
 
 def proofs_in(lines):
