@@ -2,7 +2,7 @@
 use Rattle.std.proofs.Common.{◌≡◌, ◌++◌, ◌∷◌, [], List, ℕ, append-nil, append_assoc, inl, inr, refl, subst, sym}
 use Rattle.std.specs.List.{All}
 use Rattle.std.proofs.lemmas.List.Elements.{All-head, All-tail}
-use Rattle.pkix_rules.specs.Firsts.{IsFirstOf}
+use Rattle.x509_rule_facts.specs.Firsts.{IsFirstOf}
 use Rattle.certificate_text.specs.Pieces.{InOrder, Then}
 use Rattle.certificate_text.specs.Rules.{AreBroken, IsLine, IsRule}
 

@@ -2,10 +2,10 @@
 use Rattle.std.specs.Prelude.{◌≡◌, ℕ, ◌⊎◌, List, [], codes}
 use Rattle.crl_reader.specs.Lists.{Signed as SignedList}
 use Rattle.der_x509.specs.Certificates.{Signed}
-use Rattle.pkix_rules.specs.declared.certificate.TheConstants.{MUST_RULES, SHOULD_RULES}
-use Rattle.pkix_rules.specs.declared.revoked.TheConstants.{MUST_LIST_RULES, SHOULD_LIST_RULES}
-use Rattle.pkix_rules.specs.ListRules.{BreaksList}
-use Rattle.pkix_rules.specs.Rules.{Breaks}
+use Rattle.x509_rules.specs.declared.certificate.TheConstants.{MUST_RULES, SHOULD_RULES}
+use Rattle.x509_crl_rules.specs.declared.revoked.TheConstants.{MUST_LIST_RULES, SHOULD_LIST_RULES}
+use Rattle.x509_crl_rules.specs.ListRules.{BreaksList}
+use Rattle.x509_rules.specs.Rules.{Breaks}
 use Rattle.certificate_text.specs.Pieces.{InOrder, ◌⨾◌}
 use Rattle.certificate_text.specs.Values.{line}
 
@@ -13,7 +13,8 @@ use Rattle.certificate_text.specs.Values.{line}
 abbrev pub IsLine : List ℕ → List ℕ → Type 0
 IsLine label text = (t : List ℕ) × (text ≡ line label t)
 
--- A line of a rule that is broken, and nothing of one that isn't. pkix_rules promises no text of a rule.
+-- A line of a rule that is broken, and nothing of one that isn't. Neither x509_rules nor x509_crl_rules promises the
+-- text of a rule.
 abbrev pub IsRule : {R : Type 0} → (R → Type 0) → List ℕ → R → List ℕ → Type 0
 IsRule IsBroken label r text = (IsBroken r × IsLine label text) ⊎ ((¬ IsBroken r) × (text ≡ []))
 

@@ -2,18 +2,16 @@
 ghost use Rattle.crl_reader.specs.Lists.{certificate_list_of};
 ghost use Rattle.der_print.specs.Writes.{WritesOne};
 ghost use Rattle.der_x509.specs.Certificates.{certificate_of};
-ghost use Rattle.pkix_rules.specs.ListRules.{BreaksList};
-ghost use Rattle.pkix_rules.specs.Rules.{Breaks};
+ghost use Rattle.x509_crl_rules.specs.ListRules.{BreaksList};
+ghost use Rattle.x509_rules.specs.Rules.{Breaks};
 ghost use Rattle.certificate_text.specs.Rules.{AreBroken, AreListRules, AreRules};
 
 use crate::lines::write_displayed;
 use crl_reader::CertificateList;
 use der_x509::Certificate;
-use pkix_rules::{
-    ListRule, MUST_LIST_RULES, MUST_RULES, Rule, SHOULD_LIST_RULES, SHOULD_RULES,
-    broken_list_rules, broken_rules,
-};
 use std::fmt;
+use x509_crl_rules::{ListRule, MUST_LIST_RULES, SHOULD_LIST_RULES, broken_list_rules};
+use x509_rules::{MUST_RULES, Rule, SHOULD_RULES, broken_rules};
 
 /// What stands before a rule that RFC 5280 says by MUST.
 const RULE: &str = "  Broken rule: ";

@@ -4,14 +4,14 @@ use Rattle.std.specs.List.{All}
 use Rattle.std.proofs.lemmas.List.Elements.{All-head, All-tail}
 use Rattle.crl_reader.specs.Lists.{Signed as SignedList}
 use Rattle.der_x509.specs.Certificates.{Signed as SignedCertificate}
-use Rattle.pkix_rules.specs.declared.broken.BrokenRules.{BrokenRules}
-use Rattle.pkix_rules.specs.declared.certificate.Rule.{Rule}
-use Rattle.pkix_rules.specs.declared.revoked.BrokenListRules.{BrokenListRules}
-use Rattle.pkix_rules.specs.declared.revoked.ListRule.{ListRule}
-use Rattle.pkix_rules.specs.Broken.{YieldsBroken, certificate_in, rules_left}
-use Rattle.pkix_rules.specs.Firsts.{IsFirstOf}
-use Rattle.pkix_rules.specs.ListRules.{BreaksList, YieldsBrokenOfList, list_in, list_rules_left}
-use Rattle.pkix_rules.specs.Rules.{Breaks}
+use Rattle.x509_rules.specs.declared.broken.BrokenRules.{BrokenRules}
+use Rattle.x509_rules.specs.declared.certificate.Rule.{Rule}
+use Rattle.x509_crl_rules.specs.declared.revoked.BrokenListRules.{BrokenListRules}
+use Rattle.x509_crl_rules.specs.declared.revoked.ListRule.{ListRule}
+use Rattle.x509_rules.specs.Broken.{YieldsBroken, certificate_in, rules_left}
+use Rattle.x509_rule_facts.specs.Firsts.{IsFirstOf}
+use Rattle.x509_crl_rules.specs.ListRules.{BreaksList, YieldsBrokenOfList, list_in, list_rules_left}
+use Rattle.x509_rules.specs.Rules.{Breaks}
 
 -- what holds of each holds of one of them
 one_of : {R : Type 0} (Q : R → Type 0) (before rest : List R) (r : R) → All Q (before ++ r ∷ rest) → Q r

@@ -8,10 +8,10 @@ use Rattle.der_request.specs.Requests.{request_of, whole_request}
 use Rattle.der_x509.specs.declared.certificate.Certificate.{Certificate as CertificateStruct}
 use Rattle.der_x509.specs.Certificates.{Signed as SignedCertificate, certificate_of, whole_certificate}
 use Rattle.der_x509.specs.Formats.{Format, spells}
-use Rattle.pkix_rules.specs.declared.certificate.TheConstants.{MUST_RULES}
-use Rattle.pkix_rules.specs.declared.revoked.TheConstants.{MUST_LIST_RULES}
-use Rattle.pkix_rules.specs.ListRules.{BreaksList}
-use Rattle.pkix_rules.specs.Rules.{Breaks}
+use Rattle.x509_rules.specs.declared.certificate.TheConstants.{MUST_RULES}
+use Rattle.x509_crl_rules.specs.declared.revoked.TheConstants.{MUST_LIST_RULES}
+use Rattle.x509_crl_rules.specs.ListRules.{BreaksList}
+use Rattle.x509_rules.specs.Rules.{Breaks}
 use Rattle.der_show.specs.declared.known.Known.{Known}
 use Rattle.der_show.specs.declared.known.Known.TheVariants.{Certificate, CertificateList, CertificationRequest}
 

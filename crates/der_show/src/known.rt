@@ -8,7 +8,8 @@ ghost use Rattle.der_show.specs.Known.{NoListRuleBroken};
 use crl_reader::{CertificateList, read_certificate_list};
 use der_request::{CertificationRequest, read_request};
 use der_x509::{Certificate, read_certificate};
-use pkix_rules::{MUST_LIST_RULES, MUST_RULES, broken_list_rules, broken_rules};
+use x509_crl_rules::{MUST_LIST_RULES, broken_list_rules};
+use x509_rules::{MUST_RULES, broken_rules};
 
 /// What octets are. Texts are slices of them.
 #[derive(Drop)]
@@ -52,7 +53,8 @@ fn known_request(octets: &[u8]) -> Option<Known<'_>>
 }
 
 /// Whether a certificate or a list of revoked certificates breaks none of the rules that RFC 5280 says by MUST or MUST
-/// NOT beyond its ASN.1 (`MUST_RULES` and `MUST_LIST_RULES` of pkix_rules). Of a request no rule is asked.
+/// NOT beyond its ASN.1 (`MUST_RULES` of x509_rules and `MUST_LIST_RULES` of x509_crl_rules). Of a request no rule is
+/// asked.
 pub fn keeps_rules(known: &Known<'_>) -> bool
     ensures { IsTrue result ↔ KeepsRules known.now }
 {

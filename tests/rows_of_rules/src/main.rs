@@ -3,15 +3,14 @@
 
 use crl_reader::read_certificate_list;
 use der_x509::read_certificate;
-use pkix_rules::{
-    ListRule, MUST_LIST_RULES, MUST_RULES, Rule, SHOULD_LIST_RULES, SHOULD_RULES, broken_list_rules, broken_rules,
-};
 use std::alloc::Global;
 use std::io;
 use std::process::ExitCode;
 use test_tables::fault::Fault;
 use test_tables::octets::octets;
 use test_tables::run::{Calls, run};
+use x509_crl_rules::{ListRule, MUST_LIST_RULES, SHOULD_LIST_RULES, broken_list_rules};
+use x509_rules::{MUST_RULES, Rule, SHOULD_RULES, broken_rules};
 
 struct Rules;
 

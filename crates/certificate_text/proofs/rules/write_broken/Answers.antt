@@ -1,8 +1,8 @@
 use Rattle.std.proofs.Common.{[], ◌++◌, ◌∙◌, ap, refl, subst, sym}
 use Rattle.std.proofs.Output.{has_written_append, writes_in_calls_nil}
 use Rattle.der_x509.specs.Certificates.{certificate_of}
-use Rattle.pkix_rules.specs.Rules.{Breaks}
-use Rattle.pkix_rules.specs.Broken.{certificate_in, rules_left}
+use Rattle.x509_rules.specs.Rules.{Breaks}
+use Rattle.x509_rules.specs.Broken.{certificate_in, rules_left}
 use Rattle.certificate_text.proofs.RuleLaws.{rules_end, rules_on, rules_start}
 use Rattle.certificate_text.proofs.rules.write_broken.Goals as goal
 

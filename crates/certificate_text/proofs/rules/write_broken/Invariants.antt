@@ -1,8 +1,8 @@
 use Rattle.std.proofs.Common.{◌≡◌, List, ℕ}
 use Rattle.std.specs.Fmt.{HasWritten, IsPlainFormatter}
 use Rattle.der_x509.specs.Certificates.{certificate_of}
-use Rattle.pkix_rules.specs.Broken.{certificate_in, rules_left}
-use Rattle.pkix_rules.specs.Rules.{Breaks}
+use Rattle.x509_rules.specs.Broken.{certificate_in, rules_left}
+use Rattle.x509_rules.specs.Rules.{Breaks}
 use Rattle.certificate_text.proofs.RuleLaws.{RulesGo}
 use Rattle.certificate_text.proofs.rules.write_broken.Given as goal
 

@@ -1,8 +1,0 @@
-use Rattle.der_x509.specs.Lists.{names_left}
-use Rattle.pkix_rules.specs.Attributes.{HasBadAttribute}
-use Rattle.pkix_rules.proofs.MarkLaws.{MarkedSoFar}
-use Rattle.pkix_rules.proofs.attributes.mark_name.Given as goal
-
--- of the relative names so far, the kinds are marked
-abbrev pub invariant-loop-relative_name : goal.invariant-loop-relative_name
-invariant-loop-relative_name l = MarkedSoFar (λ k. HasBadAttribute k l.fn.name.octets.now) (λ k. HasBadAttribute k (names_left l.relative_name-iterator)) l.fn.bad l.bad

@@ -1,9 +1,0 @@
-use Rattle.der_extensions.specs.GeneralNames.{GeneralName}
-use Rattle.der_extensions.specs.Lists.{items_left}
-use Rattle.pkix_rules.specs.Points.{IsDistinguished}
-use Rattle.pkix_rules.proofs.AmongLaws.{IsStill}
-use Rattle.pkix_rules.proofs.issuers.has_distinguished.Given as goal
-
--- what is asked is asked of the names that are left
-abbrev pub invariant-loop-name : goal.invariant-loop-name
-invariant-loop-name l = IsStill GeneralName IsDistinguished l.fn.names.octets.now (items_left l.name-iterator)

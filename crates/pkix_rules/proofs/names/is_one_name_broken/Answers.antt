@@ -1,4 +1,0 @@
-use Rattle.pkix_rules.proofs.names.is_one_name_broken.Goals as goal
-
-pub returns-in-Some : goal.returns-in-Some
-returns-in-Some c = rw c.in-Some.is c.has_broken_name.ensures

@@ -1,7 +1,0 @@
-use Rattle.der_x509.specs.Lists.{extensions_left}
-use Rattle.pkix_rules.proofs.SortedLaws.{SortedSoFar}
-use Rattle.pkix_rules.proofs.sorted.slots_of.Given as goal
-
--- the extensions so far are in their slots
-abbrev pub invariant-loop-extension : goal.invariant-loop-extension
-invariant-loop-extension l = SortedSoFar l.fn.extensions.octets.now (extensions_left l.extension-iterator) l.slots

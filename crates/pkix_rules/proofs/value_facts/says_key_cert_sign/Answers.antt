@@ -1,8 +1,0 @@
-use Rattle.pkix_rules.proofs.SaidLaws.{by_value, not_said, said}
-use Rattle.pkix_rules.proofs.value_facts.says_key_cert_sign.Goals as goal
-
-pub returns-in-Ok : goal.returns-in-Ok
-returns-in-Ok c = said c.in-Ok.ensures.value (by_value c.key_cert_sign.ensures)
-
-pub returns-in-Err : goal.returns-in-Err
-returns-in-Err c = not_said c.in-Err.ensures.value

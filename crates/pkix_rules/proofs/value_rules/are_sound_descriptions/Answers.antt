@@ -1,6 +1,0 @@
-use Rattle.pkix_rules.proofs.SaidLaws.{negated}
-use Rattle.pkix_rules.proofs.SoundLaws.{sound_descriptions}
-use Rattle.pkix_rules.proofs.value_rules.are_sound_descriptions.Goals as goal
-
-pub returns-in-Ok : goal.returns-in-Ok
-returns-in-Ok c = λ h. sound_descriptions c.args.value.now c.in-Ok.ensures.value ((negated c.has_bad_location.ensures).0 h)

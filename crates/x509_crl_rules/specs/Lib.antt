@@ -1,0 +1,4 @@
+pub mod Entries
+pub mod Examined
+pub mod ListRules
+pub mod WholeLists

@@ -1,0 +1,49 @@
+//! Questions about the fields of a list of revoked certificates, as `der_x509` asks them of a certificate.
+ghost use Rattle.std.specs.Prelude.{◌≡◌, ◌↔◌, IsTrue};
+ghost use Rattle.der_x509.specs.Certificates.{algorithm_of};
+ghost use Rattle.der_x509.specs.Rules.{HasFraction, IsEarly, IsPositive};
+
+use der_base::integer::{is_negative, read_u64};
+use der_x509::{AlgorithmIdentifier, Time};
+use x509_rule_facts::identifier::absolute_octets;
+
+/// The first year of which a UTCTime is none.
+const FIRST_GENERALIZED_YEAR: u32 = 2050;
+
+/// Returns whether both are the same algorithm with the same parameters.
+pub(crate) fn is_same(one: &AlgorithmIdentifier<'_>, other: &AlgorithmIdentifier<'_>) -> bool
+    ensures { IsTrue result ↔ (algorithm_of one.now ≡ algorithm_of other.now) }
+{
+    absolute_octets(&one.algorithm) == absolute_octets(&other.algorithm)
+        && one.parameters == other.parameters
+}
+
+/// Returns whether content octets of an INTEGER spell a positive number.
+pub(crate) fn is_positive(octets: &[u8]) -> bool
+    ensures { IsTrue result ↔ IsPositive octets.now }
+{
+    match read_u64(octets) {
+        Ok(number) => number > 0,
+        Err(_) => !is_negative(octets),
+    }
+}
+
+/// Returns whether it is a GeneralizedTime of a year that a UTCTime has.
+pub(crate) fn is_early(time: Time) -> bool
+    ensures { IsTrue result ↔ IsEarly time }
+{
+    match time {
+        Time::Utc(_) => false,
+        Time::Generalized(moment) => moment.year < FIRST_GENERALIZED_YEAR,
+    }
+}
+
+/// Returns whether it has a fraction of a second, which a UTCTime never has.
+pub(crate) fn has_fraction(time: Time) -> bool
+    ensures { IsTrue result ↔ HasFraction time }
+{
+    match time {
+        Time::Utc(_) => false,
+        Time::Generalized(moment) => moment.nanosecond.is_some(),
+    }
+}

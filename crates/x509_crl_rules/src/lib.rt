@@ -1,0 +1,24 @@
+//! The rules of RFC 5280 that the octets of a list of revoked certificates show. `crl_reader` reads it by its ASN.1;
+//! here each rule of the text is asked.
+#![tactic(auto)]
+
+mod display;
+mod entries;
+mod examined;
+mod fields;
+mod revoked;
+mod whole_list;
+
+pub use entries::EntryRule;
+pub use revoked::{
+    BrokenListRules, ListRule, MUST_LIST_RULES, SHOULD_LIST_RULES, broken_list_rules, list_breaks,
+};
+pub use whole_list::WholeListRule;
+pub use x509_rule_facts::known::KnownExtension;
+pub use x509_rule_facts::types::ValueType;
+pub use x509_rule_facts::value_facts::ValueFact;
+pub use x509_value_rules::facts::Fact;
+pub use x509_value_rules::issuing_point::IssuingPointRule;
+pub use x509_value_rules::names::NameRule;
+pub use x509_value_rules::points::PointRule;
+pub use x509_value_rules::value_rules::ValueRule;

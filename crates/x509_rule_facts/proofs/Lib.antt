@@ -1,0 +1,10 @@
+pub mod AmongLaws
+pub mod BelowLaws
+pub mod FirstLaws
+pub mod IdentifierLaws
+pub mod MailboxLaws
+pub mod MarkLaws
+pub mod PositionLaws
+pub mod SaidLaws
+pub mod SomewhereLaws
+pub mod UriLaws

@@ -1,0 +1,15 @@
+use Rattle.std.proofs.Common.{refl}
+use Rattle.std.proofs.lemmas.Bool.{false≢true}
+use Rattle.der_x509.specs.Certificates.{attribute, attribute_of}
+use Rattle.der_x509.proofs.CertificateLaws.{attribute_exact}
+use Rattle.der_x509.proofs.WalkLaws.{found_here, not_found, still_on}
+use Rattle.x509_rule_facts.proofs.attributes.has_mistyped_attribute.Goals as goal
+
+pub returns-then-is_mistyped : goal.returns-then-is_mistyped
+returns-then-is_mistyped c = found_here {f = attribute} attribute_exact (attribute_of c.in-Some.attribute) c.in-Some.ensures.steps c.loop-attribute.invariant (c.if-is_mistyped.ensures.0 refl)
+
+pub loop-attribute-preserved : goal.loop-attribute-preserved
+loop-attribute-preserved c = still_on {f = attribute} attribute_exact (attribute_of c.in-Some.attribute) c.in-Some.ensures.steps c.loop-attribute.invariant (λ h. false≢true (c.if-is_mistyped.ensures.1 h))
+
+pub returns : goal.returns
+returns c = not_found c.loop-attribute.invariant c.in-None.ensures.steps.0

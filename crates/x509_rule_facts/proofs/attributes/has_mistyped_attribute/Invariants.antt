@@ -1,0 +1,9 @@
+use Rattle.der_x509.specs.Certificates.{attribute}
+use Rattle.der_x509.specs.Lists.{attributes_left}
+use Rattle.der_x509.proofs.WalkLaws.{IsStill}
+use Rattle.x509_rule_facts.specs.Attributes.{IsMistyped}
+use Rattle.x509_rule_facts.proofs.attributes.has_mistyped_attribute.Given as goal
+
+-- what is asked is asked of the attributes that are left
+abbrev pub invariant-loop-attribute : goal.invariant-loop-attribute
+invariant-loop-attribute l = IsStill attribute (λ a _. IsMistyped a) l.fn.name.octets.now (attributes_left l.attribute-iterator)

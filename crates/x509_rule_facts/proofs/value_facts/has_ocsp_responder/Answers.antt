@@ -1,0 +1,15 @@
+use Rattle.std.proofs.Common.{refl}
+use Rattle.std.proofs.lemmas.Bool.{false≢true}
+use Rattle.der_cursor.specs.Formats.{Required}
+use Rattle.der_extensions.specs.Extensions.{AccessDescription}
+use Rattle.x509_rule_facts.proofs.AmongLaws.{found_here, not_found, still_on}
+use Rattle.x509_rule_facts.proofs.value_facts.has_ocsp_responder.Goals as goal
+
+pub returns-then-is_ocsp_responder : goal.returns-then-is_ocsp_responder
+returns-then-is_ocsp_responder c = found_here (Required AccessDescription) c.in-Some.ensures.steps c.loop-description.invariant (c.if-is_ocsp_responder.ensures.0 refl)
+
+pub loop-description-preserved : goal.loop-description-preserved
+loop-description-preserved c = still_on (Required AccessDescription) c.in-Some.ensures.steps c.loop-description.invariant (λ h. false≢true (c.if-is_ocsp_responder.ensures.1 h))
+
+pub returns : goal.returns
+returns c = not_found c.loop-description.invariant c.in-None.ensures.steps.0

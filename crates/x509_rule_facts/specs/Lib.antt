@@ -1,0 +1,14 @@
+pub mod Algorithms
+pub mod Attributes
+pub mod Constraints
+pub mod Firsts
+pub mod HostNames
+pub mod Identified
+pub mod Identifiers
+pub mod Lists
+pub mod Mailboxes
+pub mod Repetitions
+pub mod Types
+pub mod Uris
+pub mod ValueFacts
+pub mod Values

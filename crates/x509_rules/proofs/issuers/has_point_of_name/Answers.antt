@@ -1,0 +1,15 @@
+use Rattle.std.proofs.Common.{refl}
+use Rattle.std.proofs.lemmas.Bool.{false≢true}
+use Rattle.der_cursor.specs.Formats.{Required}
+use Rattle.der_extensions.specs.Extensions.{DistributionPoint}
+use Rattle.x509_rule_facts.proofs.AmongLaws.{found_here, not_found, still_on}
+use Rattle.x509_rules.proofs.issuers.has_point_of_name.Goals as goal
+
+pub returns-then-is_of_issuer : goal.returns-then-is_of_issuer
+returns-then-is_of_issuer c = found_here (Required DistributionPoint) c.in-Some.ensures.steps c.loop-point.invariant (c.if-is_of_issuer.ensures.0 refl)
+
+pub loop-point-preserved : goal.loop-point-preserved
+loop-point-preserved c = still_on (Required DistributionPoint) c.in-Some.ensures.steps c.loop-point.invariant (λ h. false≢true (c.if-is_of_issuer.ensures.1 h))
+
+pub returns : goal.returns
+returns c = not_found c.loop-point.invariant c.in-None.ensures.steps.0

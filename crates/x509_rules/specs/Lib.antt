@@ -1,0 +1,5 @@
+pub mod Broken
+pub mod Examined
+pub mod Issuers
+pub mod Rules
+pub mod Whole

@@ -1,0 +1,76 @@
+//! An iterator over the rules that a certificate breaks.
+ghost use Rattle.std.specs.Prelude.{◌≡◌, ◌<◌, ◌^◌, length};
+ghost use Rattle.std.specs.Iterator.{at_most};
+ghost use Rattle.der_x509.specs.Certificates.{certificate_of};
+ghost use Rattle.x509_rules.specs.Broken.{FindsBroken, YieldsBroken, certificate_in, rules_left};
+
+use crate::certificate::{Rule, breaks_examined};
+use crate::examined::examine;
+use der_x509::Certificate;
+
+/// The rules that a certificate breaks, of some, in their order.
+#[derive(Clone, Copy)]
+pub struct BrokenRules<'r, 'a> {
+    certificate: &'r Certificate<'a>,
+    left: &'r [Rule],
+}
+
+/// A rule that is broken, and those after it.
+#[derive(Clone, Copy)]
+pub(crate) struct FirstBroken<'r> {
+    pub rule: Rule,
+    pub rest: &'r [Rule],
+}
+
+/// The rules that the certificate breaks: all of those, in their order. The rules are `MUST_RULES`, `SHOULD_RULES`
+/// or others.
+///
+/// ```
+/// for rule in broken_rules(&certificate, MUST_RULES) {
+///     println!(rt; "{rule}")?;
+/// }
+/// ```
+pub fn broken_rules<'r, 'a>(
+    certificate: &'r Certificate<'a>,
+    rules: &'r [Rule],
+) -> BrokenRules<'r, 'a>
+    ensures certificate { certificate_in result ≡ certificate_of certificate.now }
+    ensures rules { rules_left result ≡ rules.now }
+    ensures few { length (rules_left result) < 2 ^ 64 }
+{
+    // Callers that count need to know that there are fewer than 2^64.
+    let _count = rules.len();
+    BrokenRules {
+        certificate,
+        left: rules,
+    }
+}
+
+impl<'r, 'a> Iterator for BrokenRules<'r, 'a> {
+    type Item = Rule;
+
+    ghost next_gives = { YieldsBroken };
+
+    ghost remaining = { λ s. at_most (length (rules_left s)) };
+
+    fn next(&mut self) -> Option<Rule> {
+        let first = first_broken(self.certificate, self.left)?;
+        self.left = first.rest;
+        Some(first.rule)
+    }
+}
+
+/// Returns the first of the rules that the certificate breaks. It is examined once for all of them.
+fn first_broken<'r>(certificate: &Certificate<'_>, rules: &'r [Rule]) -> Option<FirstBroken<'r>>
+    ensures { FindsBroken (certificate_of certificate.now) rules.now result }
+{
+    let examined = examine(certificate, rules.len());
+    let mut left = rules;
+    while let Some((rule, rest)) = left.split_first() {
+        if breaks_examined(*rule, &examined) {
+            return Some(FirstBroken { rule: *rule, rest });
+        }
+        left = rest;
+    }
+    None
+}

@@ -1,0 +1,74 @@
+//! A certificate, and what was found of it once, for all rules.
+ghost use Rattle.std.specs.Prelude.{◌≡◌, ◌↔◌, IsTrue};
+ghost use Rattle.der_x509.specs.Certificates.{certificate_of};
+ghost use Rattle.x509_rule_facts.specs.Attributes.{BreaksAttribute};
+ghost use Rattle.x509_rules.specs.Examined.{IsExamined, signed_of};
+ghost use Rattle.x509_value_rules.specs.Facts.{Has};
+
+use der_x509::Certificate;
+use x509_rule_facts::attributes::{ATTRIBUTE_KINDS, AttributeKind, bad_kinds, is_marked};
+use x509_rule_facts::known::KnownExtension;
+use x509_value_rules::facts::Fact;
+use x509_value_rules::sorted::{FEW_QUESTIONS, SortedExtensions};
+
+/// A certificate, and what was found of it.
+#[derive(Drop)]
+pub(crate) struct Examined<'r, 'a> {
+    pub signed: &'r Certificate<'a>,
+    /// Its extensions.
+    pub extensions: SortedExtensions<'a>,
+    /// The kinds of attributes whose rule it breaks, if anyone has looked.
+    pub bad_kinds: Option<[bool; ATTRIBUTE_KINDS]>,
+}
+
+/// Examines a certificate for one question: nothing is looked for.
+pub(crate) fn unexamined<'r, 'a>(signed: &'r Certificate<'a>) -> Examined<'r, 'a>
+    ensures certificate { signed_of result ≡ certificate_of signed.now }
+    ensures examined { IsExamined result }
+{
+    let extensions = SortedExtensions::unsorted(signed.tbs_certificate.extensions);
+    Examined {
+        signed,
+        extensions,
+        bad_kinds: None,
+    }
+}
+
+/// Examines a certificate for so many questions.
+pub(crate) fn examine<'r, 'a>(signed: &'r Certificate<'a>, questions: usize) -> Examined<'r, 'a>
+    ensures certificate { signed_of result ≡ certificate_of signed.now }
+    ensures examined { IsExamined result }
+{
+    let reads_ahead = questions > FEW_QUESTIONS;
+    let extensions = SortedExtensions::sort(signed.tbs_certificate.extensions, reads_ahead);
+    let bad_kinds = if reads_ahead {
+        Some(bad_kinds(signed))
+    } else {
+        None
+    };
+    Examined {
+        signed,
+        extensions,
+        bad_kinds,
+    }
+}
+
+/// Returns whether an extension of the certificate, one with the identifier of `known`, shows the fact.
+#[inline(always)]
+pub(crate) fn has(certificate: &Examined<'_, '_>, known: KnownExtension, fact: Fact) -> bool
+    requires { IsExamined certificate.now }
+    ensures { IsTrue result ↔ Has known fact (signed_of certificate.now) }
+{
+    certificate.extensions.show(known, fact)
+}
+
+/// Returns whether the issuer or the subject has an attribute of the kind whose value isn't of its type.
+pub(crate) fn breaks_attribute(kind: AttributeKind, certificate: &Examined<'_, '_>) -> bool
+    requires { IsExamined certificate.now }
+    ensures { IsTrue result ↔ BreaksAttribute kind (signed_of certificate.now) }
+{
+    match &certificate.bad_kinds {
+        Some(bad) => is_marked(bad, kind),
+        None => is_marked(&bad_kinds(certificate.signed), kind),
+    }
+}

@@ -1,0 +1,12 @@
+pub mod Directories
+pub mod Facts
+pub mod IssuingPoints
+pub mod Names
+pub mod Notices
+pub mod Points
+pub mod Policies
+pub mod Readings
+pub mod Sorted
+pub mod Sound
+pub mod Subtrees
+pub mod ValueRules
