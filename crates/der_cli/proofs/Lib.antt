@@ -1,10 +1,2 @@
-pub mod Choosing
-pub mod Collecting
-pub mod Fielding
-pub mod Looking
-pub mod NamePaths
-pub mod Octets
-pub mod Printing
 pub mod Refusing
 pub mod Showing
-pub mod Trails

@@ -2,8 +2,8 @@
 use Rattle.std.specs.Prelude.{ℕ, List, codes}
 use Rattle.der_input.specs.declared.form.Form.{Form}
 use Rattle.der_input.specs.declared.form.Form.TheVariants.{Der, Pem, Hex, Base64}
-use Rattle.der_cli.specs.declared.options.Action.{Action}
-use Rattle.der_cli.specs.declared.options.Action.TheVariants.{Tree, Check, Json, Canon, Get, Show}
+use Rattle.der_actions.specs.declared.options.Action.{Action}
+use Rattle.der_actions.specs.declared.options.Action.TheVariants.{Tree, Check, Json, Canon, Get, Show}
 
 -- the subcommand of an action
 abbrev pub action_word : Action → List ℕ

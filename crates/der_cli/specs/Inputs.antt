@@ -9,7 +9,7 @@ use Rattle.der_input.specs.declared.form.Form.TheVariants.{Der, Pem, Hex, Base64
 use Rattle.der_input.specs.Blocks.{BeginsWithBlock, BreaksBlock, IsEncrypted}
 use Rattle.der_input.specs.Forms.{FindsForm, FindsNoForm, HasNoBlock}
 use Rattle.der_input.specs.Plain.{characters_of, digits_of}
-use Rattle.der_cli.specs.declared.options.Options.{Options}
+use Rattle.der_actions.specs.declared.options.Options.{Options}
 use Rattle.der_cli.specs.Outputs.{IsRefusedBy, RefusesFile, WritesFile, WritesHeading, WritesInside}
 
 -- how an input is written: as is asked for, or as a look at it finds

@@ -1,15 +1,5 @@
 pub mod Arguments
-pub mod Choices
-pub mod Differences
-pub mod FieldNames
 pub mod Inputs
-pub mod Labels
-pub mod Namings
 pub mod Outputs
-pub mod Parts
-pub mod Paths
-pub mod Pem
-pub mod Places
 pub mod Shown
-pub mod Sources
 pub mod Statuses

@@ -4,8 +4,8 @@ use Rattle.std.specs.Prelude.{List, [], ◌++◌, codes, drop, take}
 use Rattle.std.specs.Io.KnownBytes.{Appends, Keeps}
 use Rattle.std.specs.Option.{option_map, unwrap_or}
 use Rattle.der_base.specs.declared.rules.Rules.TheVariants.{Ber}
-use Rattle.der_cli.specs.declared.options.Options.{Options}
-use Rattle.der_cli.specs.declared.origin.Origin.{Origin}
+use Rattle.der_actions.specs.declared.options.Options.{Options}
+use Rattle.der_actions.specs.declared.origin.Origin.{Origin}
 use Rattle.der_show.specs.declared.unread.Unread.{Unread}
 use Rattle.der_show.specs.declared.words.Words.{Words}
 use Rattle.der_show.specs.Described.{IsDescribed}

@@ -1,9 +1,9 @@
 -- How the program ends.
 use Rattle.std.specs.Prelude.{◌≡◌, ◌≤◌, ◌⊎◌, ℕ, Bool, true, false, Option, Some, None, List}
-use Rattle.der_cli.specs.declared.diff.Difference.{Difference}
-use Rattle.der_cli.specs.declared.diff.Difference.TheVariants.{Same, Different}
-use Rattle.der_cli.specs.declared.options.Options.{Options}
-use Rattle.der_cli.specs.Differences.{Compares}
+use Rattle.der_actions.specs.declared.diff.Difference.{Difference}
+use Rattle.der_actions.specs.declared.diff.Difference.TheVariants.{Same, Different}
+use Rattle.der_actions.specs.declared.options.Options.{Options}
+use Rattle.der_actions.specs.Differences.{Compares}
 
 -- 0 after inputs that are read to their end, 1 after one that isn't, 2 after other arguments, and 141 if what reads the
 -- output is closed

@@ -2,12 +2,12 @@
 ghost use Rattle.std.specs.Prelude.{◌≡◌, ◌≢◌, ◌⊎◌, IfSome, Some, false};
 ghost use Rattle.der_input.specs.declared.form.Form.{Form};
 ghost use Rattle.der_cli.specs.Arguments.{action_word, form_word};
-ghost use Rattle.der_cli.specs.declared.options.Action.{Action};
+ghost use Rattle.der_actions.specs.declared.options.Action.{Action};
 ghost use Rattle.der_base.specs.declared.rules.Rules.{Rules};
 
-use crate::options::{Action, Naming, Options};
-use crate::place::{Place, place_named};
 use clap::ArgMatches;
+use der_actions::options::{Action, Naming, Options};
+use der_actions::place::{Place, place_named};
 use der_input::Form;
 use der_print::{Limit, Style};
 use der_walk::Rules;

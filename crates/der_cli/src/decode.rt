@@ -3,8 +3,8 @@ ghost use Rattle.std.specs.Prelude.{◌≢◌, IfOk};
 ghost use Rattle.der_input.specs.declared.form.Form.{Form};
 ghost use Rattle.der_cli.specs.Inputs.{IsFormOf, Spells};
 
-use crate::origin::Origin;
 use crate::run::form_in;
+use der_actions::origin::Origin;
 use der_input::{Form, FormError, decode_base64, decode_hex, next_block};
 use std::alloc::Global;
 use std::io;

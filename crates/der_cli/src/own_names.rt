@@ -4,7 +4,7 @@ ghost use Rattle.std.specs.Prelude.{Some, position};
 ghost use Rattle.oid_names.specs.OwnNames.{IsTable, entries_in, is_wrong, lines_in};
 
 use crate::inputs::report_unread;
-use crate::name::Name;
+use der_actions::name::Name;
 use oid_names::{NamesError, OwnNames};
 use std::alloc::Global;
 use std::io::{ErrorKind, Write};

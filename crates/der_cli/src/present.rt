@@ -1,8 +1,8 @@
 //! The present.
 ghost use Rattle.std.specs.Prelude.{◌≡◌, ◌≢◌, Some, ℕ};
-ghost use Rattle.der_cli.specs.declared.options.Action.{Action};
+ghost use Rattle.der_actions.specs.declared.options.Action.{Action};
 
-use crate::options::{Action, Options};
+use der_actions::options::{Action, Options};
 use std::time::Clock;
 
 /// Options with the present by the clock, if it is needed and they don't have it. If the clock can't be read, there is

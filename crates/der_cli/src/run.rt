@@ -1,27 +1,28 @@
 //! What is done with an input.
 ghost use Rattle.std.specs.Prelude.{◌≡◌, ◌≢◌, ◌<◌, ◌↔◌, ℕ, IfErr, IfOk, IsOkAnd, IsTrue, MatchBool, MatchResult};
-ghost use Rattle.std.specs.Prelude.{None, Ok, OnOk, Some, false, true};
+ghost use Rattle.std.specs.Prelude.{None, Ok, OnOk, Some, false};
 ghost use Rattle.der_input.specs.declared.error.FormError.{FormError};
 ghost use Rattle.der_input.specs.declared.form.Form.{Form};
 ghost use Rattle.der_input.specs.Blocks.{label_of, lines_of};
 ghost use Rattle.der_input.specs.Forms.{FindsNoForm};
 ghost use Rattle.der_cli.specs.Inputs.{IsFormOf, ReadsBlock, ReadsBlocks, ReadsInput};
 ghost use Rattle.der_cli.specs.Inputs.{RefusesBlock, RefusesBlocks, RefusesInput};
-ghost use Rattle.der_cli.specs.Outputs.{IsChecked, IsRefusedBy, RefusesFile, Writes, WritesFile, WritesHeading};
+ghost use Rattle.der_actions.specs.Outputs.{IsChecked};
+ghost use Rattle.der_cli.specs.Outputs.{IsRefusedBy, RefusesFile, Writes, WritesFile, WritesHeading};
 ghost use Rattle.der_cli.specs.Outputs.{WritesInside, WritesName, has_heading};
-ghost use Rattle.der_cli.specs.declared.options.Action.{Action};
-ghost use Rattle.der_cli.specs.declared.origin.BlockName.{BlockName};
+ghost use Rattle.der_actions.specs.declared.options.Action.{Action};
+ghost use Rattle.der_actions.specs.declared.origin.BlockName.{BlockName};
 
-use crate::canon::write_canonical;
-use crate::get::write_part;
-use crate::label::{Label, shown_label};
-use crate::name::Name;
-use crate::naming::is_as_asked;
-use crate::options::{Action, Options};
-use crate::origin::{BlockName, Origin};
-use crate::print::{Lines, print_lines};
-use crate::report::{are_some_elements, refuse_form, report_check};
 use crate::show::show;
+use der_actions::canon::write_canonical;
+use der_actions::check::check;
+use der_actions::get::write_part;
+use der_actions::label::{Label, shown_label};
+use der_actions::name::Name;
+use der_actions::options::{Action, Options};
+use der_actions::origin::{BlockName, Origin};
+use der_actions::print::{Lines, print_lines};
+use der_actions::report::refuse_form;
 use der_input::{Block, Form, FormError, decode_base64, decode_hex, form_of, next_block};
 use std::alloc::Global;
 use std::io;
@@ -177,34 +178,6 @@ fn act<W: Write, X: Write>(
         Action::Get => write_part(alloc, options, origin, octets, out, err),
         Action::Show => show(alloc, options, origin, octets, out, err),
     }
-}
-
-/// Checks whether octets are elements, one at least, and nothing else, of the type that is asked for, if one is, and
-/// reports where and why they aren't.
-fn check<W: Write>(
-    options: &Options<'_>,
-    origin: Origin<'_>,
-    octets: &[u8],
-    out: &mut W,
-) -> io::Result<bool>
-    ensures checked { IfOk result (λ ok. IsTrue ok ↔ IsChecked options.now octets.now) }
-    ensures none { IfOk result (λ ok. IsTrue ok → out.new ≡ out.old) }
-    ensures quiet { options.now.is_quiet ≡ true → out.new ≡ out.old }
-{
-    if is_checked(options, octets) {
-        return Ok(true);
-    }
-    if !options.is_quiet {
-        report_check(options, origin, octets, out)?;
-    }
-    Ok(false)
-}
-
-/// Whether octets are elements, one at least, and nothing else, of the type that is asked for, if one is.
-fn is_checked(options: &Options<'_>, octets: &[u8]) -> bool
-    ensures { IsTrue result ↔ IsChecked options.now octets.now }
-{
-    are_some_elements(octets, options.rules) && is_as_asked(options.naming, options.rules, octets)
 }
 
 /// Does it with the blocks of a text in PEM.

@@ -5,10 +5,10 @@ ghost use Rattle.der_show.specs.Messages.{text_in};
 ghost use Rattle.der_cli.specs.Shown.{AddsFoundFrom, AddsText, AddsWords, AddsWordsFrom, IsTextOf, RefusesShown};
 ghost use Rattle.der_cli.specs.Shown.{ShowsRead, ShowsWords, is_broken, source_of};
 
-use crate::options::Options;
-use crate::origin::Origin;
-use crate::report::report_fault;
 use crate::shown_object::{write_refused, write_shown};
+use der_actions::options::Options;
+use der_actions::origin::Origin;
+use der_actions::report::report_fault;
 use der_show::{Unread, Words, text_of_refused, why_unread, words_of};
 use der_walk::Rules;
 use std::alloc::{AllocError, Global};

@@ -6,8 +6,8 @@ ghost use Rattle.der_show.specs.Messages.{text_in};
 ghost use Rattle.der_show.specs.Refused.{offset_of};
 ghost use Rattle.der_cli.specs.Shown.{AddsError, AddsObject, IsErrorOffset, source_of, words_object};
 
-use crate::origin::Origin;
 use crate::show::report_unknown;
+use der_actions::origin::Origin;
 use der_show::{Unread, Words};
 use der_walk::{Rules, Walk};
 use show_json::{Source, refused_json, shown_json};

@@ -2,7 +2,7 @@
 ghost use Rattle.std.specs.Prelude.{◌≡◌, ◌≤◌};
 ghost use Rattle.der_cli.specs.Statuses.{status_of, status_of_comparison};
 
-use crate::diff::Difference;
+use der_actions::diff::Difference;
 
 /// After inputs that are read, a text that is written, and two files of the same elements.
 pub(crate) const DONE: u8 = 0;

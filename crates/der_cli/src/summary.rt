@@ -1,5 +1,5 @@
 //! How many files a check refuses.
-use crate::options::{Naming, Options};
+use der_actions::options::{Naming, Options};
 use der_walk::Rules;
 use std::io::Write;
 use std::{fmt, io};

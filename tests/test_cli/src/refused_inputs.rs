@@ -1,7 +1,7 @@
 //! What is written of inputs that are refused, and what is said of them on the standard error.
 use der_input::Form;
 use der_print::{Limit, Style};
-use der_cli::options::{Action, Naming, Options};
+use der_actions::options::{Action, Naming, Options};
 use der_cli::run::run;
 use der_walk::Rules;
 use std::process::Abort;

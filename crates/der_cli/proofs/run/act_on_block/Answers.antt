@@ -2,7 +2,7 @@ use Rattle.std.proofs.Common.{refl}
 use Rattle.der_input.specs.Blocks.{label_of, lines_of}
 use Rattle.der_cli.specs.Inputs.{ReadsBlock, RefusesBlock, refused}
 use Rattle.der_cli.specs.Outputs.{IsRefusedBy, WritesInside}
-use Rattle.der_cli.proofs.Printing.{then_reads, then_refuses}
+use Rattle.der_actions.proofs.Printing.{then_reads, then_refuses}
 use Rattle.der_cli.proofs.run.act_on_block.Goals as goal
 
 pub returns-in-Ok-clause-read : goal.returns-in-Ok-clause-read

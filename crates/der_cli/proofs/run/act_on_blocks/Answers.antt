@@ -1,7 +1,7 @@
 use Rattle.std.proofs.Common.{◌≡◌, ◌∙◌, ◌+◌, List, Option, ap, arith, false, refl, subst, suc, sym, true, ℕ}
 use Rattle.std.specs.Borrow.{Bor}
 use Rattle.der_input.specs.Blocks.{BeginsWithBlock}
-use Rattle.der_cli.specs.declared.options.Options.{Options}
+use Rattle.der_actions.specs.declared.options.Options.{Options}
 use Rattle.der_input.specs.Forms.{HasNoBlock}
 use Rattle.der_cli.specs.Inputs.{ReadsBlock, ReadsBlocks, RefusesBlocks, after_none, broken_block, no_block, one_more, refused_block, without_blocks}
 use Rattle.der_cli.proofs.Refusing.{after_next, before_first, few_blocks, refuses_all}

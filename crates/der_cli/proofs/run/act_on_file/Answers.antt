@@ -1,6 +1,6 @@
 use Rattle.std.proofs.Common.{refl}
 use Rattle.der_cli.specs.Outputs.{IsRefusedBy, RefusesFile, Writes, WritesFile}
-use Rattle.der_cli.proofs.Printing.{then_reads, then_refuses}
+use Rattle.der_actions.proofs.Printing.{then_reads, then_refuses}
 use Rattle.der_cli.proofs.run.act_on_file.Goals as goal
 
 pub returns-clause-written : goal.returns-clause-written

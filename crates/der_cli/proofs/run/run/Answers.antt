@@ -7,7 +7,7 @@ use Rattle.der_input.specs.declared.form.Form.TheVariants.{Base64, Der, Hex, Pem
 use Rattle.der_input.specs.Plain.{characters_of, digits_of}
 use Rattle.der_cli.specs.Inputs.{ReadsBlocks, ReadsInput, RefusesBlocks, RefusesInput, blocks, octets, refused_blocks, refused_octets, without_form, without_octets}
 use Rattle.der_cli.specs.Outputs.{RefusesFile, WritesFile}
-use Rattle.der_cli.proofs.Printing.{then_reads, then_refuses}
+use Rattle.der_actions.proofs.Printing.{then_reads, then_refuses}
 use Rattle.der_cli.proofs.Refusing.{no_octets, of_digits, refuses_all}
 use Rattle.der_cli.proofs.run.run.Goals as goal
 

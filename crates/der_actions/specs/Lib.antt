@@ -1,0 +1,11 @@
+pub mod Choices
+pub mod Differences
+pub mod FieldNames
+pub mod Labels
+pub mod Namings
+pub mod Outputs
+pub mod Parts
+pub mod Paths
+pub mod Pem
+pub mod Places
+pub mod Sources

@@ -1,0 +1,120 @@
+//! The names of the fields that elements are, and the paths made of them.
+ghost use Rattle.std.specs.Prelude.{◌≡◌, ◌≤◌, ◌↔◌, ◌∷◌, ◌++◌, [], IfOk, IsTrue, List, Option, ℕ, option_map};
+ghost use Rattle.std.specs.Prelude.{string_bytes, take};
+ghost use Rattle.der_actions.specs.FieldNames.{HasNamedBy, HasNamedSo};
+ghost use Rattle.der_actions.specs.Paths.{HasNamePath, IsNamePathOf};
+ghost use Rattle.der_actions.specs.Namings.{field_in};
+ghost use Rattle.der_fields.specs.Fields.{label_text};
+ghost use Rattle.der_schema.specs.declared.schema.Schema.{Schema};
+ghost use Rattle.der_schema.specs.NamePaths.{name_path_text, name_step};
+ghost use Rattle.der_schema.specs.Steps.{label_of};
+ghost use Rattle.der_walk.specs.Visits.{Visited};
+ghost use Rattle.der_walk.specs.Walked.{index_in, visited_of};
+
+use der_schema::{Name, NamePath, Namer, Schema};
+use der_walk::{Element, MAX_DEPTH};
+use std::alloc::{AllocError, Global};
+
+/// Names the elements of a walk by a type, or none of them without one.
+#[derive(Drop)]
+pub(crate) struct Fields<'a> {
+    namer: Option<Namer<'a>>,
+    /// The path made of names to the element that was visited last.
+    path: NamePath,
+}
+
+impl<'a> Fields<'a> {
+    /// Before a walk through an input.
+    pub(crate) fn new(input: &'a [u8], schema: Option<Schema<'a>>) -> Fields<'a>
+        ensures { HasNamedBy schema.entry input.now [] result }
+    {
+        Fields {
+            namer: namer_of(input, schema),
+            path: NamePath::new(),
+        }
+    }
+
+    /// Goes on to the element that is visited next, and returns the name of the field that it is. The name is empty if
+    /// the type has none for it.
+    pub(crate) fn name_of(&mut self, element: &Element<'_>) -> &'static str
+        ensures { (s : Option Schema) (i : List ℕ) (vs : List Visited) → HasNamedBy s i vs self.old
+            → element.now.depth ≤ 100 → element.now.index ≡ index_in element.now.depth vs
+            → let v = visited_of element.now in
+            HasNamedBy s i (vs ++ v ∷ []) self.new × (result.now ≡ field_in s i vs v) }
+    {
+        match &mut self.namer {
+            Some(namer) => {
+                let name = namer.name_of(element);
+                enter(&mut self.path, element, name);
+                text_of(name)
+            }
+            None => "",
+        }
+    }
+
+    /// The path made of names to the element that was visited last. None without a type.
+    pub(crate) fn path(&self, alloc: Global) -> Result<Option<String>, AllocError>
+        ensures { (s : Option Schema) (i : List ℕ) (vs : List Visited) → HasNamedBy s i vs self.now
+            → IfOk result (λ path. IsNamePathOf s i vs (option_map string_bytes path)) }
+    {
+        match &self.namer {
+            Some(_) => Ok(Some(text_of_path(alloc, &self.path)?)),
+            None => Ok(None),
+        }
+    }
+
+    /// Whether the path made of names to the element that was visited last is this text.
+    pub(crate) fn has_path(&self, alloc: Global, text: &str) -> Result<bool, AllocError>
+        ensures { (s : Option Schema) (i : List ℕ) (vs : List Visited) → HasNamedBy s i vs self.now
+            → IfOk result (λ has. IsTrue has ↔ HasNamePath s i vs text.now) }
+    {
+        match self.path(alloc)? {
+            Some(path) => Ok(is_same(path.as_str(), text)),
+            None => Ok(false),
+        }
+    }
+}
+
+/// A namer of the elements of an input by a type, if there is one.
+fn namer_of<'a>(input: &'a [u8], schema: Option<Schema<'a>>) -> Option<Namer<'a>>
+    ensures { HasNamedSo schema.entry result input.now [] }
+{
+    match schema {
+        Some(schema) => Some(Namer::new(input, schema)),
+        None => None,
+    }
+}
+
+/// Goes on to the path to the element that is visited next, which has this name.
+fn enter(path: &mut NamePath, element: &Element<'_>, name: Option<Name>)
+    ensures { element.now.depth ≤ 100 → path.new.steps.items ≡ take element.now.depth path.old.steps.items
+        ++ name_step name element.now.index (visited_of element.now) ∷ [] }
+{
+    if element.depth <= MAX_DEPTH {
+        path.enter(element, name);
+    }
+}
+
+/// The text of a path made of names.
+fn text_of_path(alloc: Global, path: &NamePath) -> Result<String, AllocError>
+    ensures { IfOk result (λ text. string_bytes text ≡ name_path_text path.now.steps.items) }
+{
+    format!(in alloc; "{path}")
+}
+
+/// Whether two texts are the same.
+fn is_same(text: &str, other: &str) -> bool
+    ensures { IsTrue result ↔ (text.now ≡ other.now) }
+{
+    text == other
+}
+
+/// The text of a name, or nothing if there is none.
+fn text_of(name: Option<Name>) -> &'static str
+    ensures { result.now ≡ label_text (label_of name) }
+{
+    match name {
+        Some(name) => name.text,
+        None => "",
+    }
+}

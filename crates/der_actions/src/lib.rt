@@ -1,0 +1,21 @@
+//! What the subcommands of `der` do with the octets of an input. `show` is in der_cli.
+#![tactic(auto)]
+
+pub mod canon;
+pub mod check;
+pub mod diff;
+mod fields;
+pub mod get;
+pub mod label;
+mod listing;
+pub mod name;
+pub mod naming;
+pub mod options;
+pub mod origin;
+mod part;
+pub mod place;
+pub mod print;
+pub mod report;
+mod source;
+pub mod text;
+mod trail;

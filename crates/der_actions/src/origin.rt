@@ -1,0 +1,37 @@
+//! Where octets are from.
+use crate::name::Name;
+use std::fmt;
+
+/// Where octets are from: a file, or a block of PEM in it.
+#[derive(Clone, Copy)]
+pub struct Origin<'a> {
+    /// The name of the file.
+    pub name: &'a str,
+    /// None if the file has no blocks.
+    pub block: Option<BlockName<'a>>,
+}
+
+/// A block of PEM (RFC 7468).
+#[derive(Clone, Copy)]
+pub struct BlockName<'a> {
+    /// Its number among the blocks of the file, from 1.
+    pub number: usize,
+    /// Its label, as `CERTIFICATE`.
+    pub label: &'a [u8],
+    /// The label as it is printed.
+    pub shown: &'a str,
+}
+
+impl fmt::Display for Origin<'_> {
+    fn fmt<W: fmt::Write>(&self, f: &mut fmt::Formatter<W>) -> fmt::Result {
+        let name = Name(self.name);
+        match self.block {
+            Some(block) => {
+                let number = block.number;
+                let shown = block.shown;
+                write!(f, "{name}, block {number} ({shown})")
+            }
+            None => write!(f, "{name}"),
+        }
+    }
+}

@@ -1,0 +1,243 @@
+//! What is said of an input that is refused.
+ghost use Rattle.std.specs.Prelude.{◌≡◌, ◌≢◌, ◌↔◌, ◌⊎◌, IfOk, IsTrue, OnOk, false, true};
+ghost use Rattle.std.specs.Io.KnownBytes.{Keeps};
+ghost use Rattle.der_actions.specs.Namings.{IsAsAsked};
+ghost use Rattle.der_actions.specs.Outputs.{AreSomeElements};
+ghost use Rattle.der_actions.specs.declared.options.Action.{Action};
+
+use crate::listing::Listing;
+use crate::name::Name;
+use crate::naming::is_as_asked;
+use crate::options::{Action, Naming, Options};
+use crate::origin::Origin;
+use crate::place::Place;
+use der_check::are_elements;
+use der_fields::{Named, fit_of};
+use der_input::FormError;
+use der_known::KnownTypes;
+use der_schema::Schema;
+use der_walk::{MAX_DEPTH, Path, Reason, Refusal, Rules, Walk};
+use std::io;
+use std::io::Write;
+
+/// Whether octets are elements by these rules, one at least, and nothing else.
+pub(crate) fn are_some_elements(octets: &[u8], rules: Rules) -> bool
+    ensures { IsTrue result ↔ AreSomeElements rules octets.now }
+{
+    !octets.is_empty() && are_elements(octets, rules, MAX_DEPTH + 1)
+}
+
+/// Reports the first element that is refused, or that the input is empty, or else that it isn't of the type that it has
+/// to be of.
+pub(crate) fn report_check<W: Write>(
+    options: &Options<'_>,
+    origin: Origin<'_>,
+    octets: &[u8],
+    out: &mut W,
+) -> io::Result<()> {
+    if are_some_elements(octets, options.rules) {
+        return report_type(options, origin, octets, out);
+    }
+    report_first(options, origin, octets, out)
+}
+
+/// Reports the first element that is refused, or that the input is empty. An element that breaks a rule inside a string
+/// is neither.
+pub(crate) fn report_first<W: Write>(
+    options: &Options<'_>,
+    origin: Origin<'_>,
+    octets: &[u8],
+    out: &mut W,
+) -> io::Result<()> {
+    if report_fault(options.rules, origin, octets, out)? {
+        return Ok(());
+    }
+    writeln!(out, "der: {origin}: an element has no end")
+}
+
+/// Reports the first element that these rules refuse, or that the input is empty. Returns whether one of these is so.
+pub fn report_fault<W: Write>(
+    rules: Rules,
+    origin: Origin<'_>,
+    octets: &[u8],
+    out: &mut W,
+) -> io::Result<bool> {
+    let mut walk = Walk::new(octets, rules, false);
+    match walk.find_fault() {
+        Some(refusal) => report(origin, &walk, &refusal, out)?,
+        None if octets.is_empty() => report_missing(None, origin, out)?,
+        None => return Ok(false),
+    }
+    Ok(true)
+}
+
+/// Reports an input or a block whose octets aren't found.
+pub fn refuse_form<W: Write, X: Write>(
+    options: &Options<'_>,
+    origin: Origin<'_>,
+    e: FormError,
+    out: &mut W,
+    err: &mut X,
+) -> io::Result<bool>
+    ensures refused { IfOk result (λ ok. ok ≡ false) }
+    ensures quiet { options.now.action ≢ Action.Check
+        → OnOk result (Keeps (W.contents out.old) (W.contents out.new)) }
+    ensures loud { options.now.action ≡ Action.Check → err.new ≡ err.old }
+    ensures none { options.now.action ≡ Action.Check → options.now.is_quiet ≡ true → out.new ≡ out.old }
+{
+    if options.action == Action::Check {
+        if !options.is_quiet {
+            writeln!(out, "der: {origin}: {e}")?;
+        }
+    } else {
+        out.flush()?;
+        writeln!(err, "der: {origin}: {e}")?;
+    }
+    Ok(false)
+}
+
+/// Reports at the end of a walk that no element was listed, or that the input isn't of the type that it has to be of.
+/// Returns whether one was, and it is.
+pub(crate) fn report_end<W: Write, X: Write>(
+    options: &Options<'_>,
+    origin: Origin<'_>,
+    octets: &[u8],
+    listing: &Listing<'_>,
+    out: &mut W,
+    err: &mut X,
+) -> io::Result<bool>
+    ensures read { IfOk result (λ ok. IsTrue ok → (listing.now.has_some ≡ true)
+        × IsAsAsked options.now.naming options.now.rules octets.now) }
+    ensures refused { IfOk result (λ ok. ok ≡ false → (listing.now.has_some ≡ false)
+        ⊎ (IsAsAsked options.now.naming options.now.rules octets.now → ⊥)) }
+    ensures keeps { OnOk result (Keeps (W.contents out.old) (W.contents out.new)) }
+{
+    if !listing.has_some() {
+        out.flush()?;
+        report_missing(options.place, origin, err)?;
+        return Ok(false);
+    }
+    if is_as_asked(options.naming, options.rules, octets) {
+        return Ok(true);
+    }
+    out.flush()?;
+    report_type(options, origin, octets, err)?;
+    Ok(false)
+}
+
+/// Reports where an input isn't of the type that it has to be of.
+pub(crate) fn report_type<X: Write>(
+    options: &Options<'_>,
+    origin: Origin<'_>,
+    octets: &[u8],
+    err: &mut X,
+) -> io::Result<()> {
+    match options.naming {
+        Naming::By(schema) => report_fit(
+            origin,
+            schema,
+            fit_of(octets, schema, options.rules),
+            err,
+        ),
+        Naming::Unnamed | Naming::ByFirst(_) => Ok(()),
+    }
+}
+
+/// Reports how an input doesn't fit a type.
+fn report_fit<X: Write>(
+    origin: Origin<'_>,
+    schema: Schema<'_>,
+    named: Named<'_>,
+    err: &mut X,
+) -> io::Result<()> {
+    let name = schema.name;
+    match named {
+        Named::Whole => Ok(()),
+        Named::Lacks => writeln!(
+            err,
+            "der: {origin}: a mandatory component of {name} is missing"
+        ),
+        Named::Left(offset) => {
+            writeln!(
+                err,
+                "der: {origin}: at {offset}: {name} has no such element here"
+            )
+        }
+        Named::Refused(end) => report(origin, &end.walk, &end.refusal, err),
+    }
+}
+
+/// Reports that no known type has this name, and the names of those that are known.
+pub fn report_unknown_type<X: Write>(
+    name: Option<&str>,
+    types: &KnownTypes,
+    err: &mut X,
+) -> io::Result<()> {
+    let name = Name(name.unwrap_or(""));
+    write!(
+        err,
+        "der: no known type has the name {name}. These are known:"
+    )?;
+    for known in types.known() {
+        write!(err, " {}", known.name)?;
+    }
+    writeln!(err, "")
+}
+
+/// Reports where and why a walk refuses an input, after what is written of it.
+pub(crate) fn report_refusal<W: Write, X: Write>(
+    origin: Origin<'_>,
+    walk: &Walk<'_>,
+    refusal: &Refusal,
+    out: &mut W,
+    err: &mut X,
+) -> io::Result<bool>
+    ensures refused { IfOk result (λ ok. ok ≡ false) }
+    ensures keeps { OnOk result (Keeps (W.contents out.old) (W.contents out.new)) }
+{
+    out.flush()?;
+    report(origin, walk, refusal, err)?;
+    Ok(false)
+}
+
+/// Reports that no element is at a place, or that the input is empty.
+pub(crate) fn report_missing<X: Write>(
+    place: Option<Place<'_>>,
+    origin: Origin<'_>,
+    err: &mut X,
+) -> io::Result<()> {
+    match place {
+        Some(place) => writeln!(err, "der: {origin}: {place}"),
+        None => writeln!(err, "der: {origin}: the input is empty"),
+    }
+}
+
+/// Reports where and why a walk refuses an input.
+pub(crate) fn report<X: Write>(
+    origin: Origin<'_>,
+    walk: &Walk<'_>,
+    refusal: &Refusal,
+    err: &mut X,
+) -> io::Result<()> {
+    report_place(
+        origin,
+        refusal.offset,
+        &walk.path(refusal),
+        walk.reason(refusal),
+        err,
+    )
+}
+
+/// Reports where and why an input is refused.
+pub(crate) fn report_place<X: Write>(
+    origin: Origin<'_>,
+    offset: usize,
+    path: &Path,
+    reason: Reason<'_>,
+    err: &mut X,
+) -> io::Result<()> {
+    if path.is_empty() {
+        return writeln!(err, "der: {origin}: at {offset}: {reason}");
+    }
+    writeln!(err, "der: {origin}: at {offset}, {path}: {reason}")
+}

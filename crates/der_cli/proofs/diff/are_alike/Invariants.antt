@@ -1,8 +1,0 @@
-use Rattle.std.proofs.Common.{◌≡◌, take}
-use Rattle.std.specs.Prelude.{map}
-use Rattle.der_cli.specs.Differences.{compared}
-use Rattle.der_cli.proofs.diff.are_alike.Given as goal
-
--- the elements so far are alike
-abbrev pub invariant-loop-index : goal.invariant-loop-index
-invariant-loop-index l = record { alike : take l.index (map compared l.old) ≡ take l.index (map compared l.new) }

@@ -1,4 +1,0 @@
-use Rattle.der_cli.proofs.place.is_asked.Goals as goal
-
-pub returns-in-Some : goal.returns-in-Some
-returns-in-Some c = rw c.in-Some.is c.is_at.ensures
