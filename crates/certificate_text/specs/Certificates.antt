@@ -3,13 +3,13 @@ use Rattle.std.specs.Prelude.{ℕ, Option, Some, None, List, [], ◌++◌, codes
 use Rattle.der_x509.specs.declared.certificate.Version.{Version}
 use Rattle.der_x509.specs.declared.certificate.Version.TheVariants.{V1, V2, V3}
 use Rattle.der_x509.specs.Certificates.{Signed, Tbs}
-use Rattle.certificate_text.specs.Extensions.{IsExtensionList}
-use Rattle.certificate_text.specs.Identifiers.{IsIdentifierLine}
+use Rattle.name_text.specs.Identifiers.{IsIdentifierLine}
+use Rattle.name_text.specs.Names.{IsNameLine}
+use Rattle.name_text.specs.Pieces.{Exactly, ◌⨾◌}
+use Rattle.name_text.specs.Values.{line, octets_line, serial_text}
+use Rattle.extension_text.specs.Extensions.{IsExtensionList}
 use Rattle.certificate_text.specs.Keys.{IsKey}
-use Rattle.certificate_text.specs.Names.{IsNameLine}
-use Rattle.certificate_text.specs.Pieces.{Exactly, ◌⨾◌}
-use Rattle.certificate_text.specs.Rules.{AreRules}
-use Rattle.certificate_text.specs.Values.{digests_text, line, octets_line, serial_text, signature_text, validity_text}
+use Rattle.certificate_text.specs.Values.{digests_text, signature_text, validity_text}
 
 -- the number by which a version is known, one more than its encoding
 abbrev pub version_number : Version → ℕ
@@ -54,4 +54,4 @@ IsSeal i c = Exactly (signature_text c.signature.1) ⨾ Exactly (digests_text i)
 -- a certificate that was read from i
 abbrev pub IsCertificateText : Option ℕ → List ℕ → Signed → List ℕ → Type 0
 IsCertificateText now i c = Exactly (codes "Certificate\n")
-    ⨾ (IsBody now c.tbs_certificate ⨾ (IsSeal i c ⨾ AreRules c))
+    ⨾ (IsBody now c.tbs_certificate ⨾ IsSeal i c)

@@ -5,10 +5,10 @@ use Rattle.der_base.specs.declared.rules.Rules.TheVariants.{Der}
 use Rattle.der_cursor.specs.Formats.{End, Format, Integer, ObjectIdentifier, Only, Required, Sequence, ◌⨾◌}
 use Rattle.der_print.specs.Values.{without_leading_zero}
 use Rattle.der_x509.specs.Certificates.{KeyInfo}
+use Rattle.name_text.specs.Identifiers.{IsIdentifierLine}
+use Rattle.name_text.specs.Pieces.{Then}
+use Rattle.name_text.specs.Values.{line, octets_line}
 use Rattle.certificate_text.specs.declared.key.RsaPublicKey.{RsaPublicKey}
-use Rattle.certificate_text.specs.Identifiers.{IsIdentifierLine}
-use Rattle.certificate_text.specs.Pieces.{Then}
-use Rattle.certificate_text.specs.Values.{line, octets_line}
 
 abbrev pub RsaValue : Type 0
 RsaValue = List ℕ × (List ℕ × Unit {0})

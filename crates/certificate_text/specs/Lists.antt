@@ -19,16 +19,16 @@ use Rattle.der_x509.specs.declared.extension.Extension.{Extension}
 use Rattle.der_x509.specs.declared.time.Time.{Time}
 use Rattle.der_x509.specs.Certificates.{ExtensionValue as ExtensionFields, extension, extension_of, moment_of}
 use Rattle.der_x509.specs.Formats.{spells}
+use Rattle.name_text.specs.Identifiers.{IsIdentifierLine}
+use Rattle.name_text.specs.Names.{IsNameLine}
+use Rattle.name_text.specs.Pieces.{Each, Exactly, ◌⨾◌}
+use Rattle.name_text.specs.Values.{line, octets_line, serial_text, time_line}
+use Rattle.extension_text.specs.Extensions.{IsExtensionList, IsHeading}
+use Rattle.extension_text.specs.GeneralNames.{AreGeneralNames}
+use Rattle.extension_text.specs.Unread.{IsUnread}
 use Rattle.certificate_text.specs.Certificates.{version_text}
 use Rattle.certificate_text.specs.Expiry.{optional_expiry}
-use Rattle.certificate_text.specs.Extensions.{IsExtensionList, IsHeading}
-use Rattle.certificate_text.specs.GeneralNames.{AreGeneralNames}
-use Rattle.certificate_text.specs.Identifiers.{IsIdentifierLine}
-use Rattle.certificate_text.specs.Names.{IsNameLine}
-use Rattle.certificate_text.specs.Pieces.{Each, Exactly, ◌⨾◌}
-use Rattle.certificate_text.specs.Rules.{AreListRules}
-use Rattle.certificate_text.specs.Unread.{IsUnread}
-use Rattle.certificate_text.specs.Values.{digests_text, line, octets_line, serial_text, signature_text, time_line}
+use Rattle.certificate_text.specs.Values.{digests_text, signature_text}
 
 -- CRLReason (5.3.1)
 abbrev pub reason_name : Reason → List ℕ
@@ -108,5 +108,4 @@ IsListBody now t = Exactly (version_text t.version)
 -- a list that was read from i
 abbrev pub IsListText : Option ℕ → List ℕ → Signed → List ℕ → Type 0
 IsListText now i c = Exactly (codes "Certificate revocation list\n")
-    ⨾ (IsListBody now c.tbs_cert_list ⨾ (Exactly (signature_text c.signature.1) ⨾ (Exactly (digests_text i)
-    ⨾ AreListRules c)))
+    ⨾ (IsListBody now c.tbs_cert_list ⨾ (Exactly (signature_text c.signature.1) ⨾ Exactly (digests_text i)))

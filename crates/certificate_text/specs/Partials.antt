@@ -4,12 +4,12 @@ use Rattle.der_x509.specs.declared.certificate.Version.{Version}
 use Rattle.der_x509.specs.declared.time.Validity.{Validity}
 use Rattle.der_x509.specs.Certificates.{Algorithm, KeyInfo}
 use Rattle.partial_certificate.specs.Partials.{Partial}
+use Rattle.name_text.specs.Identifiers.{IsIdentifierLine}
+use Rattle.name_text.specs.Names.{IsNameLine}
+use Rattle.name_text.specs.Pieces.{Exactly, ◌⨾◌}
+use Rattle.extension_text.specs.Extensions.{IsExtensionList}
 use Rattle.certificate_text.specs.Certificates.{optional_id, serial_line, version_text}
-use Rattle.certificate_text.specs.Extensions.{IsExtensionList}
-use Rattle.certificate_text.specs.Identifiers.{IsIdentifierLine}
 use Rattle.certificate_text.specs.Keys.{IsKey}
-use Rattle.certificate_text.specs.Names.{IsNameLine}
-use Rattle.certificate_text.specs.Pieces.{Exactly, ◌⨾◌}
 use Rattle.certificate_text.specs.Values.{validity_text}
 
 abbrev pub partial_version : Option Version → List ℕ

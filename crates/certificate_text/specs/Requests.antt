@@ -3,12 +3,13 @@ use Rattle.std.specs.Prelude.{◌≡◌, ◌≢◌, ℕ, ◌⊎◌, List, [], �
 use Rattle.der_cursor.specs.Elements.{Element}
 use Rattle.der_request.specs.Requests.{Attribute, Info, Signed, attribute, challenge_password, extension_request}
 use Rattle.der_x509.specs.Formats.{any, spells}
-use Rattle.certificate_text.specs.Extensions.{IsExtensionList}
-use Rattle.certificate_text.specs.Identifiers.{IsIdentifierLine}
+use Rattle.name_text.specs.Identifiers.{IsIdentifierLine}
+use Rattle.name_text.specs.Names.{IsNameLine}
+use Rattle.name_text.specs.Pieces.{Each, Exactly, ◌⨾◌}
+use Rattle.name_text.specs.Values.{any_text, line}
+use Rattle.extension_text.specs.Extensions.{IsExtensionList}
 use Rattle.certificate_text.specs.Keys.{IsKey}
-use Rattle.certificate_text.specs.Names.{IsNameLine}
-use Rattle.certificate_text.specs.Pieces.{Each, Exactly, ◌⨾◌}
-use Rattle.certificate_text.specs.Values.{any_text, line, signature_text}
+use Rattle.certificate_text.specs.Values.{signature_text}
 
 abbrev pub value_line : Element → List ℕ
 value_line e = line (codes "    Value: ") (any_text e)

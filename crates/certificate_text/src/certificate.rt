@@ -5,19 +5,19 @@ ghost use Rattle.std.specs.Fmt.{DisplaysOnOk};
 ghost use Rattle.der_print.specs.Writes.{WritesOne};
 ghost use Rattle.der_x509.specs.Certificates.{bits_of, certificate_of, tbs_of};
 ghost use Rattle.certificate_text.specs.Certificates.{IsBody, IsCertificateText, IsHolder, IsIdentity, IsSeal};
-ghost use Rattle.certificate_text.specs.Certificates.{optional_id, unique_ids, version_number, version_text};
+ghost use Rattle.certificate_text.specs.Certificates.{optional_id, serial_line, unique_ids, version_number};
+ghost use Rattle.certificate_text.specs.Certificates.{version_text};
 
-use crate::extension::write_extensions;
-use crate::identifier::write_identifier_line;
 use crate::key::write_key;
-use crate::lines::write_octets;
-use crate::name::write_name_line;
-use crate::rules::write_rules;
 use crate::seal::{write_digests, write_signature};
-use crate::serial::write_serial_line;
 use crate::validity::write_validity;
 use der_values::BitString;
 use der_x509::{Certificate, TbsCertificate, Version};
+use extension_text::extension::write_extensions;
+use name_text::identifier::write_identifier_line;
+use name_text::lines::write_octets;
+use name_text::name::write_name_line;
+use name_text::serial::Serial;
 use std::fmt;
 
 /// A certificate in words.
@@ -36,8 +36,8 @@ impl fmt::Display for CertificateText<'_, '_> {
     }
 }
 
-/// Writes a certificate in words, and which rules of RFC 5280 it breaks. `octets` is what it was read from, and `now`
-/// the present, in seconds since 1970-01-01 00:00:00 UTC: with none, nothing is said of how long it is valid.
+/// Writes a certificate in words. `octets` is what it was read from, and `now` the present, in seconds since
+/// 1970-01-01 00:00:00 UTC: with none, nothing is said of how long it is valid.
 ///
 /// Names are written by RFC 4514. The value of an attribute is `#` and its element in hexadecimal digits if its type
 /// has no short name, or if its octets aren't its characters, as those of a BMPString. Serial numbers are in
@@ -53,8 +53,7 @@ pub fn write_certificate<W: fmt::Write>(
 {
     f.write_str("Certificate\n")?;
     write_body(f, &certificate.tbs_certificate, now)?;
-    write_seal(f, octets, certificate)?;
-    write_rules(f, certificate)
+    write_seal(f, octets, certificate)
 }
 
 /// Writes the fields that are signed.
@@ -103,6 +102,16 @@ fn version_number(version: Version) -> u8
         Version::V2 => 2,
         Version::V3 => 3,
     }
+}
+
+/// Writes a line of the serial number of a certificate.
+pub(crate) fn write_serial_line<W: fmt::Write>(
+    f: &mut fmt::Formatter<W>,
+    octets: &[u8],
+) -> fmt::Result
+    ensures { DisplaysOnOk W.Write.write_str_gives f.old result (Some (serial_line octets.now)) f.new }
+{
+    write!(f, "  Serial number: {}\n", Serial { octets })
 }
 
 /// Writes whose key a certificate has, and when it is valid.

@@ -10,13 +10,13 @@ ghost use Rattle.der_x509.specs.Certificates.{key_info_of};
 ghost use Rattle.certificate_text.specs.Keys.{IsCurve, IsDetail, IsKey, IsSize, RSAPublicKey, bit_length, rsa_of};
 ghost use Rattle.certificate_text.specs.Keys.{ec_public_key, rsa_encryption, size_text};
 
-use crate::identifier::{octets_of, write_identifier_line};
-use crate::lines::write_octets;
-use crate::serial::without_leading_zero;
 use der_base::error::BerError;
 use der_cursor::{Cursor, Refusal};
 use der_values::ObjectIdentifier;
 use der_x509::SubjectPublicKeyInfo;
+use name_text::identifier::{octets_of, write_identifier_line};
+use name_text::lines::write_octets;
+use name_text::serial::without_leading_zero;
 use std::fmt;
 
 /// rsaEncryption: 1.2.840.113549.1.1.1.

@@ -10,14 +10,13 @@ ghost use Rattle.certificate_text.specs.Partials.{IsAlgorithmLine, IsPartialHold
 ghost use Rattle.certificate_text.specs.Partials.{IsPartialName, IsPartialText, partial_ids, partial_serial};
 ghost use Rattle.certificate_text.specs.Partials.{partial_validity, partial_version};
 
-use crate::certificate::{write_optional_id, write_version};
-use crate::extension::write_extensions;
-use crate::identifier::write_identifier_line;
+use crate::certificate::{write_optional_id, write_serial_line, write_version};
 use crate::key::write_key;
-use crate::name::write_name_line;
-use crate::serial::write_serial_line;
 use crate::validity::write_validity;
 use der_x509::{AlgorithmIdentifier, Name, SubjectPublicKeyInfo, Validity, Version};
+use extension_text::extension::write_extensions;
+use name_text::identifier::write_identifier_line;
+use name_text::name::write_name_line;
 use partial_certificate::PartialCertificate;
 use std::fmt;
 

@@ -3,13 +3,12 @@ ghost use Rattle.std.specs.Prelude.{◌≡◌, Ok};
 ghost use Rattle.der_print.specs.Writes.{WritesOne};
 ghost use Rattle.certificate_text.specs.Lists.{IsEntryRead, IsEntryResult, IsReason, reason_name};
 
-use crate::general_name::write_general_names;
-use crate::lines::write_octets;
-use crate::unread::{error_in, write_unread};
-use crate::validity::write_moment;
 use crl_reader::{Reason, read_reason};
 use der_extensions::{ExtensionValue, read_extension_value};
 use der_x509::Extension;
+use extension_text::general_name::write_general_names;
+use extension_text::unread::{error_in, write_unread};
+use name_text::lines::{write_moment, write_octets};
 use std::fmt;
 
 /// Writes the value of an extension of an entry: what it says, or its octets, after why it isn't of its type.

@@ -10,11 +10,7 @@ ghost use Rattle.certificate_text.specs.Requests.{IsPassword, IsRequestBody, IsR
 ghost use Rattle.certificate_text.specs.Requests.{IsUnrequested, challenge_password_octets};
 ghost use Rattle.certificate_text.specs.Requests.{extension_request_octets, value_line};
 
-use crate::element::AnyValue;
-use crate::extension::write_extensions;
-use crate::identifier::{octets_of, write_identifier_line};
 use crate::key::write_key;
-use crate::name::write_name_line;
 use crate::seal::write_signature;
 use der_base::any::Any;
 use der_request::{
@@ -22,6 +18,10 @@ use der_request::{
     read_challenge_password, read_extension_request,
 };
 use der_values::ObjectIdentifier;
+use extension_text::extension::write_extensions;
+use name_text::element::AnyValue;
+use name_text::identifier::{octets_of, write_identifier_line};
+use name_text::name::write_name_line;
 use std::fmt;
 
 /// extensionRequest: 1.2.840.113549.1.9.14 (RFC 2985 5.4.2).

@@ -11,16 +11,15 @@ ghost use Rattle.certificate_text.specs.Lists.{next_update_text};
 
 use crate::certificate::write_version;
 use crate::expiry::write_optional_expiry;
-use crate::extension::{write_extensions, write_heading};
-use crate::identifier::write_identifier_line;
-use crate::name::write_name_line;
 use crate::reason::write_entry_value;
-use crate::rules::write_list_rules;
 use crate::seal::{write_digests, write_signature};
-use crate::serial::Serial;
 use crate::validity::write_time;
 use crl_reader::{CertificateList, RevokedCertificate, RevokedCertificates, TbsCertList};
 use der_x509::{Extension, Extensions, Time};
+use extension_text::extension::{write_extensions, write_heading};
+use name_text::identifier::write_identifier_line;
+use name_text::name::write_name_line;
+use name_text::serial::Serial;
 use std::fmt;
 
 /// A list of revoked certificates in words.
@@ -39,9 +38,8 @@ impl fmt::Display for ListText<'_, '_> {
     }
 }
 
-/// Writes a list of revoked certificates in words, with a part for each of them, and which rules of RFC 5280 it breaks.
-/// `octets` is what it was read from, and `now` the present, in seconds since 1970-01-01 00:00:00 UTC: with none,
-/// nothing is said of how long it is valid.
+/// Writes a list of revoked certificates in words, with a part for each of them. `octets` is what it was read from, and
+/// `now` the present, in seconds since 1970-01-01 00:00:00 UTC: with none, nothing is said of how long it is valid.
 pub fn write_list<W: fmt::Write>(
     f: &mut fmt::Formatter<W>,
     octets: &[u8],
@@ -54,8 +52,7 @@ pub fn write_list<W: fmt::Write>(
     f.write_str("Certificate revocation list\n")?;
     write_list_body(f, &list.tbs_cert_list, now)?;
     write_signature(f, list.signature_value.octets)?;
-    write_digests(f, octets)?;
-    write_list_rules(f, list)
+    write_digests(f, octets)
 }
 
 /// Writes the fields that are signed.

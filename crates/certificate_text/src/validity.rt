@@ -2,12 +2,12 @@
 ghost use Rattle.std.specs.Prelude.{Some};
 ghost use Rattle.std.specs.Fmt.{DisplaysOnOk};
 ghost use Rattle.der_x509.specs.Certificates.{moment_of};
-ghost use Rattle.certificate_text.specs.Values.{time_line, validity_text};
+ghost use Rattle.name_text.specs.Values.{time_line};
+ghost use Rattle.certificate_text.specs.Values.{validity_text};
 
 use crate::expiry::write_optional_expiry;
-use der_base::time::ASN1DateTime;
-use der_print::Moment;
 use der_x509::{Time, Validity};
+use name_text::lines::write_moment;
 use std::fmt;
 
 /// Writes a line of a time. The year of a `Time` is complete.
@@ -20,21 +20,6 @@ pub(crate) fn write_time<W: fmt::Write>(
         (Some (time_line label.now (moment_of time))) f.new }
 {
     write_moment(f, label, time.moment())
-}
-
-/// Writes a line of a moment whose year is complete.
-pub(crate) fn write_moment<W: fmt::Write>(
-    f: &mut fmt::Formatter<W>,
-    label: &str,
-    time: ASN1DateTime,
-) -> fmt::Result
-    ensures { DisplaysOnOk W.Write.write_str_gives f.old result (Some (time_line label.now time)) f.new }
-{
-    let moment = Moment {
-        time,
-        is_utc_time: false,
-    };
-    write!(f, "{label}{moment}\n")
 }
 
 /// Writes from when and until when a certificate is valid, and how long that is from now.

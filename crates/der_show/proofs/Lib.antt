@@ -1,3 +1,4 @@
+pub mod BrokenLines
 pub mod Found
 pub mod KnownLaws
 pub mod LeafLaws

@@ -2,8 +2,8 @@
 use Rattle.std.proofs.Common.{◌≡◌, ℕ, Option, Some, ap, refl, subst, sym, ◌∙◌}
 use Rattle.std.specs.Borrow.{Bor}
 use Rattle.std.specs.Option.{option_copied}
-use Rattle.certificate_text.specs.declared.why.Why.{Why}
-use Rattle.certificate_text.specs.Why.{why_of}
+use Rattle.extension_text.specs.declared.why.Why.{Why}
+use Rattle.extension_text.specs.Why.{why_of}
 use Rattle.der_base.specs.declared.error.Error.{Error as BerError}
 use Rattle.der_base.specs.declared.header.Class.{Class}
 use Rattle.der_cursor.specs.declared.refusal.Refusal.{Refusal}

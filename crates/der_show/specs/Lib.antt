@@ -10,6 +10,7 @@ pub mod Places
 pub mod PlaceTexts
 pub mod Refused
 pub mod RefusedTexts
+pub mod Rules
 pub mod Secrets
 pub mod Shown
 pub mod Unread

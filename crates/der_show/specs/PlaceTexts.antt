@@ -1,8 +1,8 @@
 -- The text of where an element stands in a type.
 use Rattle.std.specs.Prelude.{◌≡◌, ℕ, Option, Some, None, List, [], ◌++◌, codes}
 use Rattle.std.specs.Option.{option_map}
-use Rattle.certificate_text.specs.Identifiers.{IsIdentifier}
-use Rattle.certificate_text.specs.Pieces.{Exactly, ◌⨾◌}
+use Rattle.name_text.specs.Identifiers.{IsIdentifier}
+use Rattle.name_text.specs.Pieces.{Exactly, ◌⨾◌}
 use Rattle.der_schema.specs.NamePaths.{name_path_text}
 use Rattle.der_show.specs.declared.place.Place.{Place}
 

@@ -6,11 +6,13 @@ use Rattle.certificate_text.specs.Requests.{IsRequestText}
 use Rattle.crl_reader.specs.Lists.{certificate_list_of}
 use Rattle.der_request.specs.Requests.{request_of}
 use Rattle.der_x509.specs.Certificates.{certificate_of}
+use Rattle.name_text.specs.Pieces.{◌⨾◌}
+use Rattle.der_show.specs.Rules.{AreListRules, AreRules}
 use Rattle.der_show.specs.declared.known.Known.{Known}
 use Rattle.der_show.specs.declared.known.Known.TheVariants.{Certificate, CertificateList, CertificationRequest}
 
--- the text of what was read from i, now being the seconds since 1970
+-- the text of what was read from i, and then the rules that it breaks; now has the seconds since 1970
 abbrev pub IsShown : Option ℕ → List ℕ → Known → List ℕ → Type 0
-IsShown now i (Certificate c) = IsCertificateText now i (certificate_of c)
-IsShown now i (CertificateList l) = IsListText now i (certificate_list_of l)
+IsShown now i (Certificate c) = IsCertificateText now i (certificate_of c) ⨾ AreRules (certificate_of c)
+IsShown now i (CertificateList l) = IsListText now i (certificate_list_of l) ⨾ AreListRules (certificate_list_of l)
 IsShown now i (CertificationRequest r) = IsRequestText (request_of r)

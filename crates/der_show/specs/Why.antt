@@ -1,8 +1,8 @@
 -- What can be said of the error of a reader more exactly than by its reason.
 use Rattle.std.specs.Prelude.{◌≡◌, ◌⊎◌, true, Option, Some, None, [], ◌∷◌}
-use Rattle.certificate_text.specs.declared.why.Why.{Why}
-use Rattle.certificate_text.specs.declared.why.Why.TheVariants.{AsRead, Default}
-use Rattle.certificate_text.specs.Why.{why_of}
+use Rattle.extension_text.specs.declared.why.Why.{Why}
+use Rattle.extension_text.specs.declared.why.Why.TheVariants.{AsRead, Default}
+use Rattle.extension_text.specs.Why.{why_of}
 use Rattle.der_base.specs.declared.header.Class.TheVariants.{Universal}
 use Rattle.der_cursor.specs.Cursors.{is_at_end}
 use Rattle.der_print.specs.Texts.{content_of}

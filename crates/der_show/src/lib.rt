@@ -28,6 +28,7 @@ mod place;
 mod place_text;
 mod refused;
 mod refused_text;
+mod rules;
 mod secret;
 mod shown;
 mod snmp;

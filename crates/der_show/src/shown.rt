@@ -3,6 +3,7 @@ ghost use Rattle.der_print.specs.Writes.{WritesOne};
 ghost use Rattle.der_show.specs.Shown.{IsShown};
 
 use crate::known::Known;
+use crate::rules::{write_list_rules, write_rules};
 use certificate_text::{write_certificate, write_list, write_request};
 use std::fmt;
 
@@ -22,8 +23,8 @@ impl fmt::Display for Shown<'_, '_> {
     }
 }
 
-/// Writes what octets are, in words. `octets` is what it was read from, and `now` the present, in seconds since
-/// 1970-01-01 00:00:00 UTC: with none, nothing is said of how long it is valid.
+/// Writes what octets are, in words, and then which rules of RFC 5280 it breaks. `octets` is what it was read from, and
+/// `now` the present, in seconds since 1970-01-01 00:00:00 UTC: with none, nothing is said of how long it is valid.
 pub fn write_known<W: fmt::Write>(
     f: &mut fmt::Formatter<W>,
     octets: &[u8],
@@ -33,8 +34,14 @@ pub fn write_known<W: fmt::Write>(
     ensures { WritesOne W.Write.write_str_gives f.old result (IsShown now octets.now known.now) f.new }
 {
     match known {
-        Known::Certificate(certificate) => write_certificate(f, octets, certificate, now),
-        Known::CertificateList(list) => write_list(f, octets, list, now),
+        Known::Certificate(certificate) => {
+            write_certificate(f, octets, certificate, now)?;
+            write_rules(f, certificate)
+        }
+        Known::CertificateList(list) => {
+            write_list(f, octets, list, now)?;
+            write_list_rules(f, list)
+        }
         Known::CertificationRequest(request) => write_request(f, request),
     }
 }

@@ -1,11 +1,11 @@
 //! The lines that describe a certificate.
 use crate::contents::Contents;
 use crate::values::Value;
-use certificate_text::NameText;
 use der_extensions::{BasicConstraints, GeneralName, GeneralNames};
 use der_parser::ber::ASN1DateTime;
 use der_parser::values::BitString;
 use der_x509::{Extension, Version};
+use name_text::NameText;
 use std::fmt;
 use std::net::IpAddr;
 

@@ -2,10 +2,10 @@
 use crate::keys::Printed;
 use crate::request_fields::Requested;
 use anyhow::{Result, anyhow};
-use certificate_text::NameText;
 use der_x509::read_certificate;
 use kerberos_reader::read_request;
 use message_text::{LdapText, RequestText, SnmpText};
+use name_text::NameText;
 use test_ldap_stream::print_messages;
 
 /// Prints the issuer and the subject of a certificate.

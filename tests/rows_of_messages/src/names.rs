@@ -1,9 +1,9 @@
 //! Names.
-use certificate_text::NameText;
 use der_base::error::BerError;
 use der_cursor::Cursor;
 use der_distinguished_name::{Attr, Name};
 use der_x509::parts::read_name;
+use name_text::NameText;
 use test_words::{push_number, push_refusal, push_refused, push_rest};
 use std::alloc::{AllocError, Global};
 use test_tables::fault::Fault;

@@ -1,6 +1,6 @@
 use Rattle.std.proofs.Common.{refl}
-use Rattle.certificate_text.proofs.WriteLaws.{next, one}
+use Rattle.name_text.proofs.WriteLaws.{next, one}
 use Rattle.certificate_text.proofs.certificate.write_certificate.Goals as goal
 
 pub returns : goal.returns
-returns g c = next (one c.in_ok-write_str.ensures.writes) refl (next c.in_ok-write_body.ensures refl (next c.in_ok-write_seal.ensures refl c.write_rules.ensures))
+returns g c = next (one c.in_ok-write_str.ensures.writes) refl (next c.in_ok-write_body.ensures refl c.write_seal.ensures)

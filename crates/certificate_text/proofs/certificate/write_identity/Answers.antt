@@ -1,5 +1,5 @@
 use Rattle.std.proofs.Common.{refl}
-use Rattle.certificate_text.proofs.WriteLaws.{next, one}
+use Rattle.name_text.proofs.WriteLaws.{next, one}
 use Rattle.certificate_text.proofs.certificate.write_identity.Goals as goal
 
 pub returns : goal.returns

@@ -1,6 +1,6 @@
 use Rattle.std.proofs.Common.{inl, inr}
+use Rattle.name_text.proofs.WriteLaws.{one, restated}
 use Rattle.certificate_text.specs.Keys.{rsa_of}
-use Rattle.certificate_text.proofs.WriteLaws.{one, restated}
 use Rattle.certificate_text.proofs.key.write_size.Goals as goal
 
 pub returns-in-Ok : goal.returns-in-Ok

@@ -1,6 +1,6 @@
 use Rattle.std.proofs.Common.{Err, Ok}
-use Rattle.certificate_text.proofs.UnreadLaws.{unread_text}
-use Rattle.certificate_text.proofs.WriteLaws.{restated}
+use Rattle.name_text.proofs.WriteLaws.{restated}
+use Rattle.extension_text.proofs.UnreadLaws.{unread_text}
 use Rattle.certificate_text.proofs.reason.write_entry_value.Goals as goal
 
 pub returns-in-Ok : goal.returns-in-Ok

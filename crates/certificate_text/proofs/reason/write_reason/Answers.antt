@@ -1,7 +1,7 @@
 use Rattle.std.proofs.Common.{Err, Ok, ap, codes, ◌∙◌}
-use Rattle.certificate_text.specs.Values.{line}
-use Rattle.certificate_text.proofs.UnreadLaws.{unread_text}
-use Rattle.certificate_text.proofs.WriteLaws.{one, restated}
+use Rattle.name_text.specs.Values.{line}
+use Rattle.name_text.proofs.WriteLaws.{one, restated}
+use Rattle.extension_text.proofs.UnreadLaws.{unread_text}
 use Rattle.certificate_text.proofs.reason.write_reason.Goals as goal
 
 pub returns-in-Ok : goal.returns-in-Ok

@@ -3,8 +3,8 @@ use Rattle.std.specs.Fmt.{HasWritten, IsPlainFormatter}
 use Rattle.der_request.specs.Lists.{attributes_left}
 use Rattle.der_x509.specs.Formats.{spells}
 use Rattle.der_request.specs.Requests.{attribute}
+use Rattle.name_text.proofs.LoopLaws.{Goes}
 use Rattle.certificate_text.specs.Requests.{IsRequestAttribute}
-use Rattle.certificate_text.proofs.LoopLaws.{Goes}
 use Rattle.certificate_text.proofs.request.write_attributes.Given as goal
 
 -- what was sent goes before the texts of the values that are left

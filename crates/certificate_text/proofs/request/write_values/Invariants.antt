@@ -3,9 +3,9 @@ use Rattle.std.specs.Fmt.{HasWritten, IsPlainFormatter}
 use Rattle.der_request.specs.Lists.{values_left}
 use Rattle.der_x509.specs.Formats.{spells}
 use Rattle.der_x509.specs.Formats.{any}
-use Rattle.certificate_text.specs.Pieces.{Exactly}
+use Rattle.name_text.specs.Pieces.{Exactly}
+use Rattle.name_text.proofs.LoopLaws.{Goes}
 use Rattle.certificate_text.specs.Requests.{value_line}
-use Rattle.certificate_text.proofs.LoopLaws.{Goes}
 use Rattle.certificate_text.proofs.request.write_values.Given as goal
 
 -- what was sent goes before the texts of the values that are left

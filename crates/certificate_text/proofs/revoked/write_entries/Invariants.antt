@@ -3,8 +3,8 @@ use Rattle.std.specs.Fmt.{HasWritten, IsPlainFormatter}
 use Rattle.crl_reader.specs.Lists.{entries_left}
 use Rattle.der_x509.specs.Formats.{spells}
 use Rattle.crl_reader.specs.Lists.{revoked_certificate}
+use Rattle.name_text.proofs.LoopLaws.{Goes}
 use Rattle.certificate_text.specs.Lists.{IsEntry}
-use Rattle.certificate_text.proofs.LoopLaws.{Goes}
 use Rattle.certificate_text.proofs.revoked.write_entries.Given as goal
 
 -- what was sent goes before the texts of the values that are left

@@ -3,8 +3,8 @@ use Rattle.std.specs.Fmt.{HasWritten, IsPlainFormatter}
 use Rattle.der_x509.specs.Lists.{extensions_left}
 use Rattle.der_x509.specs.Formats.{spells}
 use Rattle.der_x509.specs.Certificates.{extension}
+use Rattle.name_text.proofs.LoopLaws.{Goes}
 use Rattle.certificate_text.specs.Lists.{IsEntryExtension}
-use Rattle.certificate_text.proofs.LoopLaws.{Goes}
 use Rattle.certificate_text.proofs.revoked.write_entry_extensions.Given as goal
 
 -- what was sent goes before the texts of the values that are left

@@ -1,6 +1,6 @@
 use Rattle.std.proofs.Common.{refl}
-use Rattle.certificate_text.proofs.WriteLaws.{next, one}
+use Rattle.name_text.proofs.WriteLaws.{next, one}
 use Rattle.certificate_text.proofs.revoked.write_list.Goals as goal
 
 pub returns : goal.returns
-returns g c = next (one c.in_ok-write_str.ensures.writes) refl (next c.in_ok-write_list_body.ensures refl (next (one c.in_ok-write_signature.ensures) refl (next (one c.in_ok-write_digests.ensures) refl c.write_list_rules.ensures)))
+returns g c = next (one c.in_ok-write_str.ensures.writes) refl (next c.in_ok-write_list_body.ensures refl (next (one c.in_ok-write_signature.ensures) refl (one c.write_digests.ensures)))

@@ -1,10 +1,12 @@
+use Rattle.std.proofs.Common.{refl}
+use Rattle.name_text.proofs.WriteLaws.{next}
 use Rattle.der_show.proofs.shown.write_known.Goals as goal
 
-pub returns-in-Certificate : goal.returns-in-Certificate
-returns-in-Certificate g c = rw c.in-Certificate.is c.write_certificate.ensures
+pub returns-in_ok-write_certificate-in-Certificate : goal.returns-in_ok-write_certificate-in-Certificate
+returns-in_ok-write_certificate-in-Certificate g c = rw c.in-Certificate.is (next c.in_ok-write_certificate-in-Certificate.ensures refl c.write_rules.ensures)
 
-pub returns-in-CertificateList : goal.returns-in-CertificateList
-returns-in-CertificateList g c = rw c.in-CertificateList.is c.write_list.ensures
+pub returns-in_ok-write_list-in-CertificateList : goal.returns-in_ok-write_list-in-CertificateList
+returns-in_ok-write_list-in-CertificateList g c = rw c.in-CertificateList.is (next c.in_ok-write_list-in-CertificateList.ensures refl c.write_list_rules.ensures)
 
 pub returns-in-CertificationRequest : goal.returns-in-CertificationRequest
 returns-in-CertificationRequest g c = rw c.in-CertificationRequest.is c.write_request.ensures

@@ -1,6 +1,0 @@
-use Rattle.std.proofs.Common.{refl}
-use Rattle.certificate_text.proofs.WriteLaws.{next, one}
-use Rattle.certificate_text.proofs.authority.write_authority.Goals as goal
-
-pub returns : goal.returns
-returns g c = next (one c.in_ok-write_optional_octets.ensures) refl (next c.in_ok-write_issuer_names.ensures refl (one c.write_optional_serial.ensures))

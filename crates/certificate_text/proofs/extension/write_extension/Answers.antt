@@ -1,6 +1,0 @@
-use Rattle.std.proofs.Common.{refl}
-use Rattle.certificate_text.proofs.WriteLaws.{next, restated}
-use Rattle.certificate_text.proofs.extension.write_extension.Goals as goal
-
-pub returns : goal.returns
-returns g c = next c.in_ok-write_heading.ensures refl (restated (λ t x. (c.args.extension.now, refl, x)) c.write_extension_value.ensures)

@@ -1,6 +1,0 @@
-use Rattle.std.proofs.Common.{refl}
-use Rattle.certificate_text.proofs.WriteLaws.{next, one}
-use Rattle.certificate_text.proofs.general_name.write_general_name.Goals as goal
-
-pub returns : goal.returns
-returns g c = next (one c.in_ok-write_str.ensures.writes) refl c.write_by_kind.ensures

@@ -1,6 +1,0 @@
-use Rattle.der_values.specs.Kinds.{integers}
-use Rattle.der_cursor.proofs.FormatLaws.{value_read}
-use Rattle.certificate_text.proofs.notice.read_number.Goals as goal
-
-pub returns : goal.returns
-returns c = value_read (λ r. integers r) c.integer.ensures

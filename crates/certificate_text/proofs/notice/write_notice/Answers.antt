@@ -1,6 +1,0 @@
-use Rattle.std.proofs.Common.{refl}
-use Rattle.certificate_text.proofs.WriteLaws.{next, one}
-use Rattle.certificate_text.proofs.notice.write_notice.Goals as goal
-
-pub returns : goal.returns
-returns g c = next (one c.in_ok-write_str.ensures.writes) refl (next c.in_ok-write_optional_reference.ensures refl (one c.write_optional_any.ensures))

@@ -1,4 +1,0 @@
-use Rattle.certificate_text.proofs.notice.write_optional_reference.Goals as goal
-
-pub returns-in-Some : goal.returns-in-Some
-returns-in-Some g c = rw c.in-Some.is c.write_reference.ensures

@@ -1,6 +1,0 @@
-use Rattle.std.proofs.Common.{refl}
-use Rattle.certificate_text.proofs.WriteLaws.{next, one}
-use Rattle.certificate_text.proofs.notice.write_reference.Goals as goal
-
-pub returns : goal.returns
-returns g c = next (one c.in_ok-write.ensures.writes) refl c.write_numbers.ensures

@@ -1,6 +1,0 @@
-use Rattle.std.proofs.Common.{refl}
-use Rattle.certificate_text.proofs.WriteLaws.{next, one}
-use Rattle.certificate_text.proofs.points.write_issuing_point.Goals as goal
-
-pub returns : goal.returns
-returns g c = next c.in_ok-write_issuing_name.ensures refl (one c.write_scope.ensures)

@@ -1,6 +1,0 @@
-use Rattle.std.proofs.Common.{refl}
-use Rattle.certificate_text.proofs.WriteLaws.{next}
-use Rattle.certificate_text.proofs.policies.PolicyInformationInWords.write.Goals as goal
-
-pub returns : goal.returns
-returns g c = next c.in_ok-write_identifier_line.ensures refl c.write_optional_qualifiers.ensures

@@ -1,6 +1,0 @@
-use Rattle.std.proofs.Common.{refl}
-use Rattle.certificate_text.proofs.WriteLaws.{next, one}
-use Rattle.certificate_text.proofs.policies.PolicyQualifierInfoInWords.write.Goals as goal
-
-pub returns : goal.returns
-returns g c = next (one c.in_ok-write_str.ensures.writes) refl (next c.in_ok-write_identifier.ensures refl c.write_detail.ensures)

@@ -1,6 +1,0 @@
-use Rattle.certificate_text.proofs.LoopLaws.{of_values}
-use Rattle.certificate_text.proofs.WriteLaws.{restated}
-use Rattle.certificate_text.proofs.policies.write_optional_qualifiers.Goals as goal
-
-pub returns-in-Some : goal.returns-in-Some
-returns-in-Some g c = rw c.in-Some.is (restated (λ t x. of_values x) c.write_items.ensures)

@@ -1,6 +1,0 @@
-use Rattle.std.proofs.Common.{refl}
-use Rattle.certificate_text.proofs.WriteLaws.{next}
-use Rattle.certificate_text.proofs.rules.write_rules.Goals as goal
-
-pub returns : goal.returns
-returns g c = next c.in_ok-write_broken.ensures refl c.write_broken-2.ensures

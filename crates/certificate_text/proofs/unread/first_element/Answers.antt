@@ -1,5 +1,0 @@
-use Rattle.certificate_text.proofs.UnreadLaws.{begins_with}
-use Rattle.certificate_text.proofs.unread.first_element.Goals as goal
-
-pub returns-in-Ok : goal.returns-in-Ok
-returns-in-Ok c = begins_with c.new-rest.ensures c.in-Ok.ensures

@@ -1,5 +1,0 @@
-use Rattle.der_cursor.proofs.FormatLaws.{any_read}
-use Rattle.certificate_text.proofs.unread.read_element.Goals as goal
-
-pub returns : goal.returns
-returns c = any_read c.any.ensures

@@ -1,8 +1,0 @@
-use Rattle.std.proofs.Common.{refl}
-use Rattle.certificate_text.proofs.WriteLaws.{next, one}
-use Rattle.certificate_text.proofs.unread.write_unread.Goals as goal
-
-pub returns : goal.returns
-returns g c =
-    next (one c.in_ok-write_str.ensures.writes) refl (next c.in_ok-write_displayed.ensures refl
-    (next (one c.in_ok-write_str-2.ensures.writes) refl (one c.write_octets.ensures)))

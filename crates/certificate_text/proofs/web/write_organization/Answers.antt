@@ -1,6 +1,0 @@
-use Rattle.std.proofs.Common.{refl}
-use Rattle.certificate_text.proofs.WriteLaws.{along}
-use Rattle.certificate_text.proofs.web.write_organization.Goals as goal
-
-pub returns : goal.returns
-returns g c = along c.in_ok-write_plain.ensures refl (along c.in_ok-write_plain-2.ensures refl (along c.in_ok-write_optional_plain.ensures refl c.write_plain-3.ensures))

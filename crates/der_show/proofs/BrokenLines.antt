@@ -1,0 +1,30 @@
+-- Lines of the rules that are broken, in loops over these.
+use Rattle.std.proofs.Common.{◌≡◌, ◌++◌, ◌∷◌, [], List, ℕ, append-nil, append_assoc, inl, inr, refl, subst, sym}
+use Rattle.std.specs.List.{All}
+use Rattle.std.proofs.lemmas.List.Elements.{All-head, All-tail}
+use Rattle.x509_rule_facts.specs.Firsts.{IsFirstOf}
+use Rattle.name_text.specs.Pieces.{InOrder, Then}
+use Rattle.der_show.specs.Rules.{AreBroken, IsLine, IsRule}
+
+module _ {R : Type 0} (IsBroken : R → Type 0) (label : List ℕ) where
+  -- with any texts of the rules that are left, what was sent makes texts of all of them
+  abbrev pub RulesGo : List R → List ℕ → List R → Type 0
+  RulesGo all sent left = (others : List ℕ) → AreBroken IsBroken label left others → AreBroken IsBroken label all (sent ++ others)
+
+  -- rules that aren't broken have no text
+  passed : (before : List R) (more : List R) (text : List ℕ) → All (λ r. ¬ IsBroken r) before → AreBroken IsBroken label more text → AreBroken IsBroken label (before ++ more) text
+  passed [] more text none so = so
+  passed (r ∷ before) more text none so = record { first = []; second = text; is_first = inr (All-head (λ (z : R). ¬ IsBroken z) r before none, refl); is_second = passed before more text (All-tail (λ (z : R). ¬ IsBroken z) r before none) so; whole = refl }
+
+  pub rules_start : {all left : List R} → left ≡ all → RulesGo all [] left
+  rules_start same others e = subst (λ i. AreBroken IsBroken label i others) same e
+
+  pub rules_on : (all : List R) {left rest : List R} {r : R} (sent text : List ℕ) → IsFirstOf IsBroken left r rest → IsLine label text → RulesGo all sent left → RulesGo all (sent ++ text) rest
+  rules_on all {left} {rest} {r} sent text x said go others e =
+      let this : AreBroken IsBroken label (r ∷ rest) (text ++ others) = record { first = text; second = others; is_first = inl (x.holds, said); is_second = e; whole = refl } in
+      subst (AreBroken IsBroken label all) (sym (append_assoc sent text others)) (go (text ++ others) (subst (λ i. AreBroken IsBroken label i (text ++ others)) (sym x.parts) (passed x.before (r ∷ rest) (text ++ others) x.none this)))
+
+  pub rules_end : (all left : List R) (sent : List ℕ) → All (λ r. ¬ IsBroken r) left → RulesGo all sent left → AreBroken IsBroken label all sent
+  rules_end all left sent none go =
+      let nothing : AreBroken IsBroken label left [] = subst (λ i. AreBroken IsBroken label i []) (append-nil left) (passed left [] [] none refl) in
+      subst (AreBroken IsBroken label all) (append-nil sent) (go [] nothing)

@@ -1,0 +1,6 @@
+use Rattle.std.proofs.Common.{refl}
+use Rattle.name_text.proofs.WriteLaws.{next}
+use Rattle.extension_text.proofs.lists.AccessDescriptionInWords.write.Goals as goal
+
+pub returns : goal.returns
+returns g c = next c.in_ok-write_identifier_line.ensures refl c.write_general_name.ensures

@@ -1,0 +1,6 @@
+use Rattle.std.proofs.Common.{refl}
+use Rattle.name_text.proofs.WriteLaws.{next, one}
+use Rattle.extension_text.proofs.policies.PolicyQualifierInfoInWords.write.Goals as goal
+
+pub returns : goal.returns
+returns g c = next (one c.in_ok-write_str.ensures.writes) refl (next c.in_ok-write_identifier.ensures refl c.write_detail.ensures)

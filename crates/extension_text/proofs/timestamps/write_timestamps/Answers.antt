@@ -1,0 +1,28 @@
+use Rattle.std.proofs.Common.{[], ◌++◌, ap, refl, ◌∙◌}
+use Rattle.std.proofs.Output.{has_written_append, writes_in_calls_nil}
+use Rattle.der_extensions.specs.WebExtensions.{timestamps_left}
+use Rattle.name_text.proofs.LoopLaws.{goes_end, goes_on, goes_start}
+use Rattle.name_text.proofs.WriteLaws.{one}
+use Rattle.extension_text.proofs.timestamps.write_timestamps.Goals as goal
+
+pub loop-timestamp-init : goal.loop-timestamp-init
+loop-timestamp-init g c = record {
+  done = λ plain. ([], goes_start (ap (λ x. timestamps_left x) c.into_iter-timestamp-iterator.ensures.into_iter_gives ∙ c.iter-timestamp-items.ensures.octets), record { wrote = writes_in_calls_nil _ _; plain = plain });
+}
+
+pub loop-timestamp-preserved : goal.loop-timestamp-preserved
+loop-timestamp-preserved g c = record {
+  done = λ plain.
+      let done = c.loop-timestamp.invariant.done plain in
+      let item = one c.in_ok-write_timestamp.ensures done.2.plain refl in (
+        done.0 ++ item.0,
+        goes_on done.0 item.0 _ c.in-Some.ensures.steps.found item.1 done.1,
+        has_written_append _ _ _ _ _ _ done.2 item.2,
+      );
+}
+
+pub returns : goal.returns
+returns g c =
+    λ plain ok.
+    let done = c.loop-timestamp.invariant.done plain in
+    (done.0, goes_end c.in-None.ensures.steps.0 done.1, done.2)

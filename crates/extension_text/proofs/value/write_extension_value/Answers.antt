@@ -1,0 +1,12 @@
+use Rattle.std.proofs.Common.{Err, Ok}
+use Rattle.name_text.proofs.WriteLaws.{restated}
+use Rattle.extension_text.proofs.UnreadLaws.{unread_text}
+use Rattle.extension_text.proofs.value.write_extension_value.Goals as goal
+
+pub returns-in-Ok : goal.returns-in-Ok
+returns-in-Ok g c = restated (λ t x. (Ok c.in-Ok.value, c.in-Ok.ensures, x)) c.write_value.ensures
+
+pub returns-in-Err : goal.returns-in-Err
+returns-in-Err g c =
+    let error = c.error_in.ensures in
+    restated (λ t x. (Err c.in-Err.e, c.in-Err.ensures, unread_text error.refusal error.why x)) c.write_unread.ensures

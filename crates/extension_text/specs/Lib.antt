@@ -1,0 +1,10 @@
+pub mod Extensions
+pub mod GeneralNames
+pub mod Notices
+pub mod Points
+pub mod Policies
+pub mod Timestamps
+pub mod Unread
+pub mod Usage
+pub mod Web
+pub mod Why

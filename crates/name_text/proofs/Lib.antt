@@ -1,0 +1,5 @@
+pub mod BackLaws
+pub mod LengthLaws
+pub mod LoopLaws
+pub mod WideLaws
+pub mod WriteLaws

@@ -1,0 +1,6 @@
+pub mod Escapes
+pub mod Identifiers
+pub mod Names
+pub mod Pieces
+pub mod Values
+pub mod Wide
