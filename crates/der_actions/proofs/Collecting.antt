@@ -1,5 +1,5 @@
 -- The elements of a walk that are kept to be compared.
-use Rattle.std.proofs.Common.{◌≡◌, ◌∙◌, ◌≢◌, Bool, true, false, ℕ, List, [], ◌∷◌, ◌++◌, ap, refl, sym}
+use Rattle.std.proofs.Common.{◌≡◌, ◌∙◌, Bool, true, false, ℕ, List, [], ◌∷◌, ◌++◌, ap, refl, sym}
 use Rattle.std.specs.Prelude.{map, if◌then◌else◌, Option, Some, None}
 use Rattle.der_base.specs.declared.rules.Rules.{Rules}
 use Rattle.std.proofs.lemmas.List.{map-append}
@@ -11,7 +11,7 @@ use Rattle.der_walk.specs.declared.walk.Walk.{Walk}
 use Rattle.der_walk.specs.Visits.{Visited}
 use Rattle.der_walk.specs.Walked.{HasOctets, HasVisited, visited_of}
 use Rattle.der_actions.specs.declared.options.Options.{Options}
-use Rattle.der_actions.specs.Differences.{Compared, compared, compared_in, is_entered}
+use Rattle.der_actions.specs.Differences.{compared, compared_in, is_entered}
 use Rattle.der_actions.specs.Outputs.{extras_of}
 
 own : (constructed : Bool) (holds : Option Rules) (w w' : List ℕ) → (constructed ≡ false → w ≡ w')

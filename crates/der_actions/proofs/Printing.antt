@@ -1,5 +1,5 @@
 -- A walk, and the lines of the elements that it has visited.
-use Rattle.std.proofs.Common.{◌≡◌, ◌∙◌, ◌⊎◌, inl, inr, ℕ, MatchBool, false, true, Bool, Err, IfOk, IsTrue, Ok, OnOk, Option, Result, List, [], ◌∷◌, ◌++◌, codes, refl, subst, sym}
+use Rattle.std.proofs.Common.{◌≡◌, ◌⊎◌, inl, inr, ℕ, MatchBool, false, true, Bool, Err, IfOk, IsTrue, Ok, OnOk, Option, Result, List, [], ◌∷◌, ◌++◌, codes, refl, subst, sym}
 use Rattle.std.proofs.KnownBytes.{Appends-kept, Appends-nil, Appends-trans}
 use Rattle.std.specs.Io.KnownBytes.{Appends, Keeps}
 use Rattle.der_print.specs.Lines.{IsLineOf as IsTreeLine, content_in}
