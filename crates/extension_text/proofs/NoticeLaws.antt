@@ -1,5 +1,5 @@
 -- A notice in an element.
-use Rattle.std.proofs.Common.{List, Ok, Err, Result, ℕ}
+use Rattle.std.proofs.Common.{Ok, Err, Result}
 use Rattle.der_base.specs.declared.rules.Rules.TheVariants.{Der}
 use Rattle.der_cursor.specs.Formats.{Element, ReadsWhole}
 use Rattle.extension_text.specs.Notices.{IsNoticeIn, IsSequence, NoticeFields, NoticeValue}
