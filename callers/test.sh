@@ -463,7 +463,7 @@ fi
 # The numbers of errors in the header are those of the specification, where 0 is no error.
 numbers_of_header() { sed -n 's/^ *DM_ERROR_.* = \([0-9]*\).*/\1/p' c/include/dumarewhi.h; }
 numbers_of_errors() { sed -n 's/^[a-z]*_number [^:]* = \([0-9]*\)$/\1/p' "$numbers" | grep -vx 0; }
-numbers=../crates/dumarewhi_c/specs/ErrorNumbers.antt
+numbers=../crates/c_values/specs/ErrorNumbers.antt
 run_numbers() { [ -n "$(numbers_of_errors)" ] && diff <(numbers_of_header | sort) <(numbers_of_errors | sort -u); }
 says "the header has a name for each error" run_numbers
 

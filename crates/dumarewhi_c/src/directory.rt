@@ -1,21 +1,21 @@
-//! What else is said of the subject of a certificate (RFC 5280 4.2.1.8).
+//! Calls that read what else is said of the subject of a certificate (RFC 5280 4.2.1.8).
 ghost use Rattle.std.specs.Prelude.{◌≡◌};
+ghost use Rattle.c_formats.specs.Directory.{IsAttribute, attributes_octets};
+ghost use Rattle.c_formats.specs.ExtensionLists.{HasItems};
+ghost use Rattle.c_formats.specs.Items.{Takes, left};
+ghost use Rattle.c_values.specs.Faults.{Reads, value_fault};
 ghost use Rattle.der_base.specs.declared.rules.Rules.TheVariants.{Der};
 ghost use Rattle.der_cursor.specs.Formats.{Never, ReadsInput, Required};
 ghost use Rattle.der_extensions.specs.Lists.{YieldsNext};
 ghost use Rattle.der_extensions.specs.PolicyExtensions.{DirectoryAttribute as AttributeFormat, directory_attribute_of};
 ghost use Rattle.der_extensions.specs.PolicyExtensions.{SubjectDirectoryAttributes as AttributesFormat};
-ghost use Rattle.dumarewhi_c.specs.Directory.{HasAttribute, IsAttribute, attributes_octets};
-ghost use Rattle.dumarewhi_c.specs.ExtensionLists.{HasItems};
-ghost use Rattle.dumarewhi_c.specs.Faults.{Reads, Written, value_fault};
-ghost use Rattle.dumarewhi_c.specs.Items.{Taken, Takes, left};
 
-use crate::fault::DmFault;
-use crate::lists::next_item;
-use crate::octets::DmOctets;
-use crate::parts::identifier_octets;
-use crate::request::DmRequestAttribute;
-use crate::writing::write_list;
+use c_formats::directory::write_attribute;
+use c_formats::lists::next_item;
+use c_formats::request::DmRequestAttribute;
+use c_formats::writing::write_list;
+use c_values::fault::DmFault;
+use c_values::octets::DmOctets;
 use der_base::error::BerError;
 use der_extensions::{DirectoryAttribute, read_subject_directory_attributes};
 
@@ -47,29 +47,4 @@ pub extern "C" fn dm_next_directory_attribute<'a>(
         next_item::<DirectoryAttribute<'a>, BerError>(attributes),
         attribute,
     )
-}
-
-fn write_attribute<'a>(
-    found: Option<DirectoryAttribute<'a>>,
-    attribute: &mut DmRequestAttribute<'a>,
-) -> u32
-    ensures { Taken IsAttribute found.entry attribute.old attribute.new result }
-{
-    match found {
-        Some(found) => {
-            *attribute = attribute_fields(found);
-            1
-        }
-        None => 0,
-    }
-}
-
-/// The fields of an attribute.
-fn attribute_fields<'a>(found: DirectoryAttribute<'a>) -> DmRequestAttribute<'a>
-    ensures { HasAttribute (directory_attribute_of found.entry) result }
-{
-    DmRequestAttribute {
-        identifier: identifier_octets(found.identifier),
-        values: found.values.octets,
-    }
 }

@@ -1,13 +1,13 @@
 //! Calls of C that put the value of one type.
-ghost use Rattle.std.specs.Prelude.{◌≡◌, [], not, ◌==◌};
+ghost use Rattle.std.specs.Prelude.{[], not, ◌==◌};
+ghost use Rattle.c_values.specs.Writers.{writer_of};
 ghost use Rattle.der_base.specs.Encoding.{content_octets};
 ghost use Rattle.der_base.specs.Octets.{number, shortest_integer};
 ghost use Rattle.der_base.specs.Tree.{boolean, enumerated};
 ghost use Rattle.der_writer.specs.Octets.{bit_octets, signed_integer};
-ghost use Rattle.der_writer.specs.Written.{Puts, PutsLeaf};
-ghost use Rattle.dumarewhi_c.specs.Writers.{writer_of};
+ghost use Rattle.der_writer.specs.Written.{PutsLeaf};
 
-use crate::state::{DmWriter, implicit_of, resume};
+use c_values::state::{DmWriter, implicit_of, resume};
 
 /// A BOOLEAN (X.690 8.2, 11.1), true unless the value is 0.
 #[unsafe(no_mangle)]

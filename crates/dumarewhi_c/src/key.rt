@@ -1,64 +1,14 @@
-//! Private keys (RFC 5208 5, RFC 5958 2), and those of RSA (RFC 8017 A.1.2).
-ghost use Rattle.std.specs.Prelude.{◌≡◌, []};
-ghost use Rattle.std.specs.Option.{option_map, unwrap_or};
-ghost use Rattle.der_cursor.specs.Cursors.{octets_left};
+//! Calls that read private keys (RFC 5208 5, RFC 5958 2), and those of RSA (RFC 8017 A.1.2).
+ghost use Rattle.std.specs.Prelude.{◌≡◌};
+ghost use Rattle.c_formats.specs.Keys.{IsKey, IsRsaKey, key_fault, rsa_fault};
+ghost use Rattle.c_values.specs.Faults.{Reads};
 ghost use Rattle.der_x509.specs.Readers.{ReadsExactly};
-ghost use Rattle.dumarewhi_c.specs.Faults.{Reads, Written};
-ghost use Rattle.dumarewhi_c.specs.FieldNumbers.{key_field_number, only_name, prime_number, rsa_field_number};
-ghost use Rattle.dumarewhi_c.specs.Keys.{HasKey, HasRsaKey, IsKey, IsRsaKey, key_fault, rsa_fault};
 ghost use Rattle.pkcs8_reader.specs.Fields.{key_fault as named_fault};
 ghost use Rattle.pkcs8_reader.specs.Keys.{key_of, rsa_of, whole_key, whole_rsa_key};
 
-use crate::any::{DmAny, optional_any};
-use crate::element::bit;
-use crate::fault::{DmFault, FIRST_KEY_FIELD, FIRST_RSA_FIELD, field_fault, no_fault};
-use crate::parts::{DmBits, identifier_octets, optional_bits};
-use der_cursor::{Cursor, FieldRefusal};
-use pkcs8_reader::{PrivateKeyInfo, RsaPrivateKey, read_private_key, read_rsa_private_key};
-
-/// A private key. Octets are slices of the input.
-#[repr(C)]
-#[derive(Clone, Copy)]
-pub struct DmPrivateKey<'a> {
-    /// The content octets of the identifier of its algorithm.
-    pub algorithm: &'a [u8],
-    /// The algorithm's parameters. Their content isn't read.
-    pub parameters: DmAny<'a>,
-    /// The key, as its algorithm encodes it.
-    pub private_key: &'a [u8],
-    /// The content octets of the attributes, which aren't read.
-    pub attributes: &'a [u8],
-    /// The public key, if it is there.
-    pub public_key: DmBits<'a>,
-    /// 1 if there is a public key, else 0.
-    pub version: u32,
-    /// Whether there are parameters, 0 or 1.
-    pub has_parameters: u32,
-    /// Whether there are attributes, 0 or 1.
-    pub has_attributes: u32,
-    /// 0.
-    pub reserved: u32,
-}
-
-/// The numbers of a key of RSA, each as the content octets of its INTEGER, in two's complement.
-#[repr(C)]
-#[derive(Clone, Copy)]
-pub struct DmRsaPrivateKey<'a> {
-    pub modulus: &'a [u8],
-    pub public_exponent: &'a [u8],
-    pub private_exponent: &'a [u8],
-    pub prime1: &'a [u8],
-    pub prime2: &'a [u8],
-    pub exponent1: &'a [u8],
-    pub exponent2: &'a [u8],
-    pub coefficient: &'a [u8],
-    /// The content octets of further primes, which aren't read.
-    pub other_primes: &'a [u8],
-    /// 1 if there are further primes, else 0.
-    pub version: u32,
-    /// Whether there are further primes, 0 or 1.
-    pub has_other_primes: u32,
-}
+use c_formats::key::{DmPrivateKey, DmRsaPrivateKey, key_fault, rsa_fault, write, write_rsa};
+use c_values::fault::DmFault;
+use pkcs8_reader::{read_private_key, read_rsa_private_key};
 
 /// Reads a private key by DER, and nothing after it. Returns the fault's status.
 #[unsafe(no_mangle)]
@@ -75,82 +25,6 @@ pub extern "C" fn dm_read_private_key<'a>(
     fault.status
 }
 
-fn write<'a>(found: Result<PrivateKeyInfo<'a>, FieldRefusal>, key: &mut DmPrivateKey<'a>) -> DmFault
-    ensures { Written IsKey key_fault found.entry key.old key.new result }
-{
-    match found {
-        Ok(found) => {
-            *key = fields(&found);
-            no_fault()
-        }
-        Err(e) => key_fault(e),
-    }
-}
-
-/// The fields of a key.
-fn fields<'a>(found: &PrivateKeyInfo<'a>) -> DmPrivateKey<'a>
-    ensures { HasKey found.now result }
-{
-    DmPrivateKey {
-        algorithm: identifier_octets(found.algorithm.identifier),
-        parameters: optional_any(found.algorithm.parameters),
-        private_key: found.private_key,
-        attributes: octets_left(found.attributes),
-        public_key: optional_bits(found.public_key),
-        version: found.version,
-        has_parameters: bit(found.algorithm.parameters.is_some()).into(),
-        has_attributes: bit(found.attributes.is_some()).into(),
-        reserved: 0,
-    }
-}
-
-/// The octets that a cursor has left, or none.
-fn octets_left<'a>(cursor: Option<Cursor<'a>>) -> &'a [u8]
-    ensures { result.now ≡ unwrap_or (option_map octets_left cursor.entry) [] }
-{
-    match cursor {
-        Some(cursor) => cursor.remaining(),
-        None => &[],
-    }
-}
-
-/// The fault of a field of a key.
-fn key_fault(e: FieldRefusal) -> DmFault
-    ensures { result ≡ key_fault e }
-{
-    let field = key_field_number(only_name(e.names()));
-    field_fault(field, e.refusal)
-}
-
-/// The one name of a field. The names of the readers of keys have no others before them.
-pub(crate) fn only_name(names: &[&'static str]) -> &'static str
-    ensures { result.now ≡ only_name names.now }
-{
-    match names {
-        [name] => name,
-        _ => "",
-    }
-}
-
-/// The number of the field with this name.
-fn key_field_number(name: &str) -> u32
-    ensures { result ≡ key_field_number name.now }
-{
-    if name == "version" {
-        FIRST_KEY_FIELD + 1
-    } else if name == "privateKeyAlgorithm" {
-        FIRST_KEY_FIELD + 2
-    } else if name == "privateKey" {
-        FIRST_KEY_FIELD + 3
-    } else if name == "attributes" {
-        FIRST_KEY_FIELD + 4
-    } else if name == "publicKey" {
-        FIRST_KEY_FIELD + 5
-    } else {
-        FIRST_KEY_FIELD
-    }
-}
-
 /// Reads a private key of RSA by DER, and nothing after it. Returns the fault's status.
 #[unsafe(no_mangle)]
 pub extern "C" fn dm_read_rsa_private_key<'a>(
@@ -164,84 +38,4 @@ pub extern "C" fn dm_read_rsa_private_key<'a>(
 {
     *fault = write_rsa(read_rsa_private_key(input), key);
     fault.status
-}
-
-fn write_rsa<'a>(
-    found: Result<RsaPrivateKey<'a>, FieldRefusal>,
-    key: &mut DmRsaPrivateKey<'a>,
-) -> DmFault
-    ensures { Written IsRsaKey rsa_fault found.entry key.old key.new result }
-{
-    match found {
-        Ok(found) => {
-            *key = rsa_fields(&found);
-            no_fault()
-        }
-        Err(e) => rsa_fault(e),
-    }
-}
-
-/// The numbers of a key.
-fn rsa_fields<'a>(found: &RsaPrivateKey<'a>) -> DmRsaPrivateKey<'a>
-    ensures { HasRsaKey found.now result }
-{
-    DmRsaPrivateKey {
-        modulus: found.modulus,
-        public_exponent: found.public_exponent,
-        private_exponent: found.private_exponent,
-        prime1: found.prime1,
-        prime2: found.prime2,
-        exponent1: found.exponent1,
-        exponent2: found.exponent2,
-        coefficient: found.coefficient,
-        other_primes: octets_left(found.other_primes),
-        version: found.version,
-        has_other_primes: bit(found.other_primes.is_some()).into(),
-    }
-}
-
-/// The fault of a field of a key of RSA.
-fn rsa_fault(e: FieldRefusal) -> DmFault
-    ensures { result ≡ rsa_fault e }
-{
-    let field = rsa_field_number(only_name(e.names()));
-    field_fault(field, e.refusal)
-}
-
-/// The number of the field with this name.
-fn rsa_field_number(name: &str) -> u32
-    ensures { result ≡ rsa_field_number name.now }
-{
-    if name == "version" {
-        FIRST_RSA_FIELD + 1
-    } else if name == "modulus" {
-        FIRST_RSA_FIELD + 2
-    } else if name == "publicExponent" {
-        FIRST_RSA_FIELD + 3
-    } else if name == "privateExponent" {
-        FIRST_RSA_FIELD + 4
-    } else if name == "otherPrimeInfos" {
-        FIRST_RSA_FIELD + 10
-    } else {
-        prime_number(name)
-    }
-}
-
-/// That of a prime, of an exponent or of the coefficient.
-fn prime_number(name: &str) -> u32
-    ensures { result ≡ prime_number name.now }
-{
-    if name == "prime1" {
-        FIRST_RSA_FIELD + 5
-    } else if name == "prime2" {
-        FIRST_RSA_FIELD + 6
-    } else if name == "exponent1" {
-        FIRST_RSA_FIELD + 7
-    } else if name == "exponent2" {
-        FIRST_RSA_FIELD + 8
-    } else if name == "coefficient" {
-        FIRST_RSA_FIELD + 9
-    } else {
-        FIRST_RSA_FIELD
-    }
 }

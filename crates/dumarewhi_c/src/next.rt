@@ -1,5 +1,8 @@
-//! Calls of C that read the next field of a cursor. With another status than 0 the cursor and the value stay.
+//! Calls that read the next field of a cursor. With another status than 0 the cursor and the value stay.
 ghost use Rattle.std.specs.Prelude.{◌≡◌, ◌≤◌, ◌↔◌, Result, pos, true};
+ghost use Rattle.c_values.specs.Cursors.{Continues, IsAny, IsBit, IsBits, IsIdentifier, IsInner, IsNull, IsOctets};
+ghost use Rattle.c_values.specs.Cursors.{IsSame, IsTime, ReadsField, end_fault, rules_in};
+ghost use Rattle.c_values.specs.Writers.{class_of, is_set};
 ghost use Rattle.der_base.specs.declared.error.Error.{Error as BerError};
 ghost use Rattle.der_base.specs.Numbers.{signed, unsigned};
 ghost use Rattle.der_cursor.specs.declared.refusal.Refusal.{Refusal};
@@ -8,25 +11,22 @@ ghost use Rattle.der_cursor.specs.Cursors.{EndsAt, OpensAt, OpensType, ReadsAnyA
 ghost use Rattle.der_cursor.specs.Elements.{IsNext};
 ghost use Rattle.der_values.specs.Kinds.{bit_strings, booleans, borrowed_octets, enumerated_numbers, identifiers};
 ghost use Rattle.der_values.specs.Kinds.{integers, nulls, numbers, octet_strings, times};
-ghost use Rattle.dumarewhi_c.specs.Cursors.{Continues, Finishes, IsAny, IsBit, IsBits, IsIdentifier};
-ghost use Rattle.dumarewhi_c.specs.Cursors.{IsInner, IsNull, IsOctets, IsSame, IsTime, ReadsField};
-ghost use Rattle.dumarewhi_c.specs.Cursors.{end_fault, rules_in};
-ghost use Rattle.dumarewhi_c.specs.Writers.{class_of, is_set};
 
-use crate::any::{DmAny, any_fields};
-use crate::cursor::{DmCursor, advance, finish, moved_fault, resume};
-use crate::element::bit;
-use crate::fault::{DmFault, no_fault};
-use crate::octets::DmOctets;
-use crate::parts::{DmBits, bits, identifier_octets};
-use crate::state::class_of;
-use crate::time::{DmTime, time_fields};
-use der_base::any::Any;
+use c_values::any::DmAny;
+use c_values::cursor::{DmCursor, finish, resume};
+use c_values::element::bit;
+use c_values::fault::DmFault;
+use c_values::next::{
+    end_fault, finish_any, finish_bits, finish_bool, finish_null, finish_octets, finish_oid,
+    finish_opening, finish_time,
+};
+use c_values::octets::DmOctets;
+use c_values::parts::DmBits;
+use c_values::state::class_of;
+use c_values::time::DmTime;
 use der_base::error::BerError;
 use der_base::header::Tag;
-use der_base::time::ASN1DateTime;
 use der_cursor::{Cursor, Refusal};
-use der_values::{BitString, ObjectIdentifier};
 
 /// A BOOLEAN (X.690 8.2, 11.1), 0 or 1.
 #[unsafe(no_mangle)]
@@ -43,24 +43,6 @@ pub extern "C" fn dm_next_bool(
     let found = fields.boolean();
     *fault = finish_bool(cursor, fields, found, value);
     fault.status
-}
-
-fn finish_bool<'a>(
-    cursor: &mut DmCursor<'a>,
-    after: Cursor<'a>,
-    found: Result<bool, Refusal<BerError>>,
-    value: &mut u8,
-) -> DmFault
-    ensures { Finishes IsBit cursor.old after.entry found cursor.new value.old value.new result }
-{
-    match found {
-        Ok(found) => {
-            *value = bit(found);
-            advance(cursor, after);
-            no_fault()
-        }
-        Err(e) => moved_fault(cursor, e),
-    }
 }
 
 /// The number of an INTEGER from 0 to 2^64-1 (8.3).
@@ -148,24 +130,6 @@ pub extern "C" fn dm_next_octets<'a>(
     fault.status
 }
 
-fn finish_octets<'a>(
-    cursor: &mut DmCursor<'a>,
-    after: Cursor<'a>,
-    found: Result<&'a [u8], Refusal<BerError>>,
-    octets: &mut DmOctets<'a>,
-) -> DmFault
-    ensures { Finishes IsOctets cursor.old after.entry found.entry cursor.new octets.old octets.new result }
-{
-    match found {
-        Ok(found) => {
-            octets.octets = found;
-            advance(cursor, after);
-            no_fault()
-        }
-        Err(e) => moved_fault(cursor, e),
-    }
-}
-
 /// The content octets of an OBJECT IDENTIFIER (8.19). Padded arcs are an error.
 #[unsafe(no_mangle)]
 pub extern "C" fn dm_next_oid<'a>(
@@ -181,24 +145,6 @@ pub extern "C" fn dm_next_oid<'a>(
     let found = fields.oid();
     *fault = finish_oid(cursor, fields, found, octets);
     fault.status
-}
-
-fn finish_oid<'a>(
-    cursor: &mut DmCursor<'a>,
-    after: Cursor<'a>,
-    found: Result<ObjectIdentifier<'a>, Refusal<BerError>>,
-    octets: &mut DmOctets<'a>,
-) -> DmFault
-    ensures { Finishes IsIdentifier cursor.old after.entry found.entry cursor.new octets.old octets.new result }
-{
-    match found {
-        Ok(found) => {
-            octets.octets = identifier_octets(found);
-            advance(cursor, after);
-            no_fault()
-        }
-        Err(e) => moved_fault(cursor, e),
-    }
 }
 
 /// The bits of a BIT STRING (8.6, 11.2).
@@ -217,24 +163,6 @@ pub extern "C" fn dm_next_bits<'a>(
     let found = fields.bits();
     *fault = finish_bits(cursor, fields, found, value);
     fault.status
-}
-
-fn finish_bits<'a>(
-    cursor: &mut DmCursor<'a>,
-    after: Cursor<'a>,
-    found: Result<BitString<'a>, Refusal<BerError>>,
-    value: &mut DmBits<'a>,
-) -> DmFault
-    ensures { Finishes IsBits cursor.old after.entry found.entry cursor.new value.old value.new result }
-{
-    match found {
-        Ok(found) => {
-            *value = bits(found);
-            advance(cursor, after);
-            no_fault()
-        }
-        Err(e) => moved_fault(cursor, e),
-    }
 }
 
 /// A cursor over the items of the next element, which has to be a SEQUENCE (8.9).
@@ -291,38 +219,6 @@ pub extern "C" fn dm_next_content<'a>(
     fault.status
 }
 
-fn finish_opening<'a>(
-    cursor: &mut DmCursor<'a>,
-    after: Cursor<'a>,
-    found: Result<Cursor<'a>, Refusal<BerError>>,
-    inner: &mut DmCursor<'a>,
-) -> DmFault
-    ensures { Finishes (IsInner cursor.old) cursor.old after.entry found.entry cursor.new inner.old inner.new result }
-{
-    match found {
-        Ok(found) => {
-            *inner = inner_cursor(cursor, found);
-            advance(cursor, after);
-            no_fault()
-        }
-        Err(e) => moved_fault(cursor, e),
-    }
-}
-
-/// A cursor over the content of an element of the octets that are left.
-fn inner_cursor<'a>(cursor: &DmCursor<'a>, inner: Cursor<'a>) -> DmCursor<'a>
-    ensures { IsInner cursor.now inner.entry result }
-{
-    DmCursor {
-        left: inner.remaining(),
-        offset: cursor.offset.saturating_add(inner.offset()),
-        rules: cursor.rules,
-        is_inside: 1,
-        implicit: 0,
-        number: 0,
-    }
-}
-
 /// The time of a UTCTime (8.25, 11.8), of a year from 1950 to 2049.
 #[unsafe(no_mangle)]
 pub extern "C" fn dm_next_utc_time(
@@ -357,24 +253,6 @@ pub extern "C" fn dm_next_generalized_time(
     fault.status
 }
 
-fn finish_time<'a>(
-    cursor: &mut DmCursor<'a>,
-    after: Cursor<'a>,
-    found: Result<ASN1DateTime, Refusal<BerError>>,
-    time: &mut DmTime,
-) -> DmFault
-    ensures { Finishes IsTime cursor.old after.entry found cursor.new time.old time.new result }
-{
-    match found {
-        Ok(found) => {
-            *time = time_fields(found);
-            advance(cursor, after);
-            no_fault()
-        }
-        Err(e) => moved_fault(cursor, e),
-    }
-}
-
 /// A NULL (8.8).
 #[unsafe(no_mangle)]
 pub extern "C" fn dm_next_null(cursor: &mut DmCursor<'_>, fault: &mut DmFault) -> u32
@@ -386,22 +264,6 @@ pub extern "C" fn dm_next_null(cursor: &mut DmCursor<'_>, fault: &mut DmFault) -
     let found = fields.null();
     *fault = finish_null(cursor, fields, found);
     fault.status
-}
-
-fn finish_null<'a>(
-    cursor: &mut DmCursor<'a>,
-    after: Cursor<'a>,
-    found: Result<(), Refusal<BerError>>,
-) -> DmFault
-    ensures { Finishes IsNull cursor.old after.entry found cursor.new tt tt result }
-{
-    match found {
-        Ok(()) => {
-            advance(cursor, after);
-            no_fault()
-        }
-        Err(e) => moved_fault(cursor, e),
-    }
 }
 
 /// An element of any type: its content isn't read.
@@ -418,24 +280,6 @@ pub extern "C" fn dm_next_any<'a>(
     let found = fields.any();
     *fault = finish_any(cursor, fields, found, element);
     fault.status
-}
-
-fn finish_any<'a>(
-    cursor: &mut DmCursor<'a>,
-    after: Cursor<'a>,
-    found: Result<Any<'a>, Refusal<BerError>>,
-    element: &mut DmAny<'a>,
-) -> DmFault
-    ensures { Finishes IsAny cursor.old after.entry found.entry cursor.new element.old element.new result }
-{
-    match found {
-        Ok(found) => {
-            *element = any_fields(&found);
-            advance(cursor, after);
-            no_fault()
-        }
-        Err(e) => moved_fault(cursor, e),
-    }
 }
 
 /// Whether an element of this class and tag number is next, constructed or not.
@@ -457,14 +301,4 @@ pub extern "C" fn dm_end(cursor: &DmCursor<'_>, fault: &mut DmFault) -> u32
 {
     *fault = end_fault(cursor, resume(cursor).end());
     fault.status
-}
-
-/// The fault of a list that doesn't end.
-fn end_fault(cursor: &DmCursor<'_>, found: Result<(), Refusal<BerError>>) -> DmFault
-    ensures { result ≡ end_fault cursor.now found }
-{
-    match found {
-        Ok(()) => no_fault(),
-        Err(e) => moved_fault(cursor, e),
-    }
 }

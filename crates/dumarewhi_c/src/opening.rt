@@ -1,12 +1,13 @@
-//! Elements that C opens and closes, and the end of what it writes.
+//! Calls that open and close elements, and end what is written.
 ghost use Rattle.std.specs.Prelude.{◌≡◌, Result, true, false, ℕ};
+ghost use Rattle.c_values.specs.Writers.{class_of, finished_length, finished_status, is_set, mark_of, writer_of};
 ghost use Rattle.der_base.specs.declared.header.Class.{Class};
 ghost use Rattle.der_writer.specs.declared.writer.WriteError.{WriteError};
 ghost use Rattle.der_writer.specs.SetsOf.{ClosesSetOf};
 ghost use Rattle.der_writer.specs.Written.{Closes, IsTagged, Opens, Puts, Returns};
-ghost use Rattle.dumarewhi_c.specs.Writers.{class_of, finished_length, finished_status, is_set, mark_of, writer_of};
 
-use crate::state::{DmMark, DmWriter, class_of};
+use c_values::opening::open;
+use c_values::state::{DmMark, DmWriter, class_of};
 use der_base::header::{Class, Tag};
 use der_writer::{Mark, Writer};
 
@@ -62,21 +63,6 @@ pub extern "C" fn dm_open_tagged(writer: &mut DmWriter<'_>, number: u32) -> DmMa
     ensures { Opens Class.ContextSpecific true number (mark_of result) (writer_of writer.old) (writer_of writer.new) }
 {
     open(writer, Class::ContextSpecific, true, Tag(number))
-}
-
-/// `open` of der_writer.
-fn open(writer: &mut DmWriter<'_>, class: Class, constructed: bool, tag: Tag) -> DmMark
-    ensures { Opens class constructed tag.0 (mark_of result) (writer_of writer.old) (writer_of writer.new) }
-{
-    let mut fields = Writer::resume(writer.octets, writer.count, writer.innermost);
-    let mark = fields.open(class, constructed, tag);
-    writer.count = fields.count();
-    writer.innermost = fields.innermost();
-    writer.implicit = 0;
-    DmMark {
-        start: mark.start,
-        outer: mark.outer,
-    }
 }
 
 /// Closes an element. Those that were opened in it have to be closed before: otherwise nothing is closed, and

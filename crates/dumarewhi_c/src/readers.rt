@@ -1,32 +1,13 @@
-//! Elements of an input, by DER and by BER.
+//! Calls that read elements of an input, by DER and by BER.
 ghost use Rattle.std.specs.Prelude.{◌≡◌, min};
+ghost use Rattle.c_values.specs.Outcomes.{Checks, FindsBer, FindsDer, Lists, greatest_depth};
 ghost use Rattle.der_base.specs.declared.rules.Rules.TheVariants.{Ber, Der};
-ghost use Rattle.dumarewhi_c.specs.Outcomes.{Checks, FindsBer, FindsDer, Lists, greatest_depth};
 
-use crate::element::DmElement;
-use crate::outcome::{DmOutcome, fault_outcome, outcome_of_first, read_outcome};
+use c_values::element::DmElement;
+use c_values::outcome::{DmOutcome, outcome_of_first};
+use c_values::readers::list;
 use der_base::any::Any;
 use der_base::rules::Rules;
-use der_check::list_element;
-use der_walk::{MAX_DEPTH, first_fault};
-
-/// Elements are read to this depth at most. It counts an element and those around it.
-const GREATEST_DEPTH: usize = MAX_DEPTH + 1;
-
-/// Reads the element at the start of an input, and writes it and those inside it to the buffer, as far as there is
-/// room. If there is none, the outcome is that of the first fault.
-fn list(input: &[u8], rules: Rules, max_depth: usize, elements: &mut [DmElement]) -> DmOutcome
-    ensures { Lists rules (min max_depth greatest_depth) input.now elements.old elements.new result }
-{
-    let depth = max_depth.min(GREATEST_DEPTH);
-    match list_element(input, rules, depth, elements) {
-        Some(listed) => read_outcome(listed.elements, input.len() - listed.rest.len()),
-        None => {
-            let fault = first_fault(input, rules, depth);
-            fault_outcome(fault.cause, fault.offset)
-        }
-    }
-}
 
 /// Lists the first element by DER. Returns the outcome's status.
 #[unsafe(no_mangle)]

@@ -2,7 +2,7 @@
 ghost use Rattle.std.specs.Prelude.{◌≡◌, ◌≤◌, ◌↔◌};
 ghost use Rattle.der_extensions.specs.Unknown.{HasUnknownCritical};
 
-use crate::element::bit;
+use c_values::element::bit;
 use der_extensions::has_unknown_critical;
 use der_x509::Extensions;
 

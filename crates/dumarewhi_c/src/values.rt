@@ -1,39 +1,24 @@
-//! Values of content octets. Each call returns 0 and writes the value, or returns the number of an
-//! error and writes nothing.
-ghost use Rattle.std.specs.Prelude.{◌≡◌, List, Result, ℕ, false};
-ghost use Rattle.der_base.specs.declared.error.Error.{Error as BerError};
+//! Calls that read values of content octets. Each returns 0 and writes the value, or returns the number of an error
+//! and writes nothing.
+ghost use Rattle.std.specs.Prelude.{◌≡◌, Result, false};
 ghost use Rattle.std.specs.Option.{option_map};
+ghost use Rattle.c_values.specs.ErrorNumbers.{number_of_result};
+ghost use Rattle.c_values.specs.Texts.{ReturnsText};
+ghost use Rattle.c_values.specs.Values.{AnswersBoolean, AnswersText, AnswersTime, Returns};
+ghost use Rattle.der_base.specs.declared.error.Error.{Error as BerError};
 ghost use Rattle.der_base.specs.Numbers.{AnswersSigned, AnswersUnsigned};
 ghost use Rattle.der_base.specs.Pretty.{dotted};
 ghost use Rattle.der_base.specs.Tree.{integer};
 ghost use Rattle.der_values.specs.ArcNumbers.{u128_arcs};
-ghost use Rattle.dumarewhi_c.specs.ErrorNumbers.{number_of_result};
-ghost use Rattle.dumarewhi_c.specs.Texts.{PutsText, ReturnsText};
-ghost use Rattle.dumarewhi_c.specs.Values.{AnswersBoolean, AnswersText, AnswersTime, Returns, written};
 
-use crate::element::bit;
-use crate::errors::{number_of_result, refusal_number};
-use crate::text::put_arcs;
-use crate::time::{DmTime, read_fields};
+use c_values::errors::{number_of_result, refusal_number};
+use c_values::text::put_arcs;
+use c_values::time::{DmTime, read_fields};
+use c_values::values::{check_text, read_boolean, write};
 use der_base::error::BerError;
 use der_base::header::Tag;
 use der_base::rules::Rules;
-use der_base::text::is_text_type;
-use der_values::{ObjectIdentifier, read_bmp_string, read_bool, read_i64, read_text, read_u64};
-
-/// Writes what a reader returned. Returns 0 or the number of its error.
-fn write<V: Copy>(found: Result<V, BerError>, value: &mut V) -> u32
-    ensures value { value.new ≡ written found value.old }
-    ensures number { result ≡ number_of_result found }
-{
-    match found {
-        Ok(v) => {
-            *value = v;
-            0
-        }
-        Err(e) => refusal_number(e),
-    }
-}
+use der_values::{ObjectIdentifier, read_i64, read_u64};
 
 /// The number of an INTEGER, from -2^63 to 2^63-1.
 #[unsafe(no_mangle)]
@@ -57,13 +42,6 @@ pub extern "C" fn dm_read_bool(content: &[u8], value: &mut u8) -> u32
     ensures { Returns (AnswersBoolean content.now) value.old value.new result }
 {
     write(read_boolean(content), value)
-}
-
-/// The value of a BOOLEAN as a number.
-fn read_boolean(content: &[u8]) -> Result<u8, BerError>
-    ensures { AnswersBoolean content.now result }
-{
-    Ok(bit(read_bool(Rules::Ber, content)?))
 }
 
 /// Writes the arcs of an OBJECT IDENTIFIER with points between them, and the length of that text. Each
@@ -90,20 +68,6 @@ pub extern "C" fn dm_check_text(number: u32, content: &[u8]) -> u32
         × (result ≡ number_of_result found) }
 {
     number_of_result(check_text(Tag(number), content))
-}
-
-/// A string type that is kept as a text, or a BMPString.
-fn check_text(tag: Tag, content: &[u8]) -> Result<(), BerError>
-    ensures { AnswersText tag.0 content.now result }
-{
-    if tag == Tag::BmpString {
-        read_bmp_string(content)?;
-    } else if is_text_type(tag) {
-        read_text(tag, content)?;
-    } else {
-        return Err(BerError::BerTypeError);
-    }
-    Ok(())
 }
 
 /// The fields of a UTCTime (23) or a GeneralizedTime (24).

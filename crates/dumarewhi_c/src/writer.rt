@@ -1,8 +1,8 @@
 //! Elements written as DER writes them.
 ghost use Rattle.std.specs.Prelude.{◌≡◌};
-ghost use Rattle.dumarewhi_c.specs.Outcomes.{Writes};
+ghost use Rattle.c_values.specs.Outcomes.{Writes};
 
-use crate::outcome::{DmOutcome, outcome_of_written};
+use c_values::outcome::{DmOutcome, outcome_of_written};
 use der_canon::canonical_into;
 
 /// Writes all elements of an input in BER as DER writes them, if the buffer has room. Returns the outcome's

@@ -1,5 +1,5 @@
 use Rattle.std.proofs.Common.{◌-◌, ◌^◌, ◌≤◌, ◌++◌, codes, length, arith}
-use Rattle.dumarewhi_c.proofs.Puts.{puts_more}
+use Rattle.c_values.proofs.Puts.{puts_more}
 use Rattle.dumarewhi_c.proofs.error_text.dm_named_fault_text.Goals as goal
 
 pub returns : goal.returns

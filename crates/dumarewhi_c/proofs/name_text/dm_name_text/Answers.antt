@@ -1,5 +1,5 @@
 use Rattle.std.proofs.Common.{◌-◌, ◌^◌, ◌≤◌, length, arith}
-use Rattle.dumarewhi_c.proofs.Puts.{some_after, some_more, some_none}
+use Rattle.c_values.proofs.Puts.{some_after, some_more, some_none}
 use Rattle.dumarewhi_c.proofs.name_text.dm_name_text.Goals as goal
 
 pub loop-i-init : goal.loop-i-init

@@ -1,4 +1,4 @@
-use Rattle.dumarewhi_c.specs.Texts.{PutsSome}
+use Rattle.c_values.specs.Texts.{PutsSome}
 use Rattle.dumarewhi_c.proofs.name_text.dm_name_text.Given as goal
 
 -- some text was put

@@ -1,6 +1,6 @@
 use Rattle.std.proofs.Common.{rules, refl, sym, ◌∙◌}
-use Rattle.dumarewhi_c.specs.Writers.{writer_of}
-use Rattle.dumarewhi_c.proofs.Alike.{closes_alike}
+use Rattle.c_values.specs.Writers.{writer_of}
+use Rattle.c_values.proofs.Alike.{closes_alike}
 use Rattle.dumarewhi_c.proofs.opening.dm_close.Goals as goal
 
 pub returns : goal.returns

@@ -1,4 +1,4 @@
-use Rattle.dumarewhi_c.proofs.Firsts.{ber_first}
+use Rattle.c_values.proofs.Firsts.{ber_first}
 use Rattle.dumarewhi_c.proofs.readers.dm_first_ber.Goals as goal
 
 pub returns-clause-exactly : goal.returns-clause-exactly

@@ -1,4 +1,4 @@
-use Rattle.dumarewhi_c.proofs.Firsts.{der_first}
+use Rattle.c_values.proofs.Firsts.{der_first}
 use Rattle.dumarewhi_c.proofs.readers.dm_first_der.Goals as goal
 
 pub returns-clause-exactly : goal.returns-clause-exactly

@@ -1,0 +1,2 @@
+pub mod AfterSequence
+pub mod AfterTimestamp

@@ -1,0 +1,12 @@
+pub mod Certificates
+pub mod Directory
+pub mod ExtensionLists
+pub mod ExtensionValues
+pub mod FieldNumbers
+pub mod Items
+pub mod Keys
+pub mod OtherKeys
+pub mod PathExtensions
+pub mod Requests
+pub mod RevokedLists
+pub mod Web

@@ -1,0 +1,22 @@
+//! What the library for C has of certificates, their extensions and lists, keys and requests: each as a struct of C.
+//! `dumarewhi_c` has the calls.
+#![tactic(auto)]
+
+pub mod access;
+pub mod certificate;
+pub mod directory;
+pub mod extension;
+pub mod items;
+pub mod key;
+pub mod lists;
+pub mod other_keys;
+pub mod path;
+pub mod point;
+pub mod policy;
+pub mod request;
+pub mod revocation;
+pub mod revoked;
+pub mod sequences;
+pub mod subtree;
+pub mod web;
+pub mod writing;

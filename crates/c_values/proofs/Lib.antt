@@ -1,0 +1,6 @@
+pub mod Alike
+pub mod Firsts
+pub mod Moments
+pub mod Puts
+pub mod TextsPut
+pub mod Within

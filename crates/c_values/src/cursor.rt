@@ -1,0 +1,103 @@
+//! Fields of an input, one after another: a cursor of der_cursor as C keeps it.
+ghost use Rattle.std.specs.Prelude.{◌≡◌};
+ghost use Rattle.c_values.specs.Cursors.{Continues, Finishes, GoesOn, IsSame, moved_fault, rules_in};
+
+use crate::fault::{DmFault, field_fault, no_fault};
+use crate::state::implicit_of;
+use der_base::error::BerError;
+use der_base::rules::Rules;
+use der_cursor::{Cursor, Refusal};
+
+/// The octets of an input, or of the content of an element, that aren't read yet.
+#[repr(C)]
+#[derive(Clone, Copy)]
+pub struct DmCursor<'a> {
+    /// The octets. For C these are two fields, a pointer and the length.
+    pub left: &'a [u8],
+    /// The number of octets of the input before them.
+    pub offset: usize,
+    /// By which rules they are read: 0 by BER, else by DER.
+    pub rules: u32,
+    /// Whether they are the content of an element: 0 if not, else 1.
+    pub is_inside: u32,
+    /// Whether the next element has an implicit tag: 0 if not, else its class from 1 to 4.
+    pub implicit: u32,
+    /// The number of that tag.
+    pub number: u32,
+}
+
+/// The number of the error of an element that runs past the end of the list that it is in.
+const PAST_END: u32 = 17;
+
+/// A cursor at the start of the octets that are left, before an element with this implicit tag.
+pub fn resume<'a>(cursor: &DmCursor<'a>) -> Cursor<'a>
+    ensures { Continues cursor.now result }
+{
+    let mut fields = Cursor::by(rules_of(cursor.rules), cursor.left);
+    if let Some((class, tag)) = implicit_of(cursor.implicit, cursor.number) {
+        let _ = fields.implicit_of(class, tag.0);
+    }
+    fields
+}
+
+/// The rules with a number.
+fn rules_of(number: u32) -> Rules
+    ensures { result ≡ rules_in number }
+{
+    match number {
+        0 => Rules::Ber,
+        _ => Rules::Der,
+    }
+}
+
+/// Goes on with the octets that a cursor left.
+pub(crate) fn advance<'a>(cursor: &mut DmCursor<'a>, after: Cursor<'a>)
+    ensures { GoesOn cursor.old after.entry cursor.new }
+{
+    let rest = after.remaining();
+    let read = cursor.left.len().saturating_sub(rest.len());
+    cursor.offset = cursor.offset.saturating_add(read);
+    cursor.left = rest;
+    cursor.implicit = 0;
+}
+
+/// The fault of the next element. Inside a list an element that is cut short is an error, since no further octets mend
+/// it.
+pub(crate) fn moved_fault(cursor: &DmCursor<'_>, e: Refusal<BerError>) -> DmFault
+    ensures { result ≡ moved_fault cursor.now e }
+{
+    let fault = field_fault(0, e);
+    let offset = cursor.offset.saturating_add(fault.offset);
+    if cursor.is_inside == 0 {
+        return DmFault { offset, ..fault };
+    }
+    let is_cut = fault.status == 2;
+    DmFault {
+        offset,
+        list_end: cursor.offset.saturating_add(cursor.left.len()),
+        needed: fault.needed,
+        status: 1,
+        error: if is_cut { PAST_END } else { fault.error },
+        field: 0,
+        is_in_list: 1,
+    }
+}
+
+/// Writes what was read, and goes on after it; or returns the fault, and the cursor stays.
+pub fn finish<'a, V: Copy>(
+    cursor: &mut DmCursor<'a>,
+    after: Cursor<'a>,
+    found: Result<V, Refusal<BerError>>,
+    value: &mut V,
+) -> DmFault
+    ensures { Finishes IsSame cursor.old after.entry found cursor.new value.old value.new result }
+{
+    match found {
+        Ok(found) => {
+            *value = found;
+            advance(cursor, after);
+            no_fault()
+        }
+        Err(e) => moved_fault(cursor, e),
+    }
+}

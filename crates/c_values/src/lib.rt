@@ -1,0 +1,25 @@
+//! What the library for C has of elements, values and errors: each as a struct of C or a number. `dumarewhi_c` has the
+//! calls.
+#![tactic(auto)]
+
+pub mod any;
+pub mod cursor;
+pub mod element;
+pub mod error_text;
+pub mod errors;
+pub mod fault;
+pub mod laws;
+pub mod moment;
+pub mod name_text;
+pub mod next;
+pub mod octets;
+pub mod opening;
+pub mod outcome;
+pub mod parts;
+pub mod pem;
+pub mod readers;
+pub mod state;
+pub mod tested;
+pub mod text;
+pub mod time;
+pub mod values;

@@ -1,8 +1,0 @@
-pub mod AfterSequence
-pub mod AfterTimestamp
-pub mod Alike
-pub mod Firsts
-pub mod Moments
-pub mod Puts
-pub mod TextsPut
-pub mod Within

@@ -1,7 +1,0 @@
-use Rattle.std.proofs.Common.{refl, subst}
-use Rattle.der_request.specs.Requests.{attribute}
-use Rattle.der_x509.specs.Lists.{BeginsWithNone}
-use Rattle.dumarewhi_c.proofs.request.next_attribute.Goals as goal
-
-pub returns-in_default : goal.returns-in_default
-returns-in_default c = (subst (λ i. BeginsWithNone attribute i) c.iter.ensures.octets c.in_default.ensures.steps.0, refl)
