@@ -1,10 +1,10 @@
 //! What DER has the values of an input.
-ghost use Rattle.dumarewhi_page.specs.Written.{WritesInput};
+ghost use Rattle.page_texts.specs.Written.{WritesInput};
 
-use crate::fault::Fault;
-use crate::room::put;
 use der_canon::canonical_into;
 use der_walk::Reason;
+use page_texts::fault::Fault;
+use page_texts::room::put;
 
 /// Writes the elements of an input as DER writes them, if there is room for them. `needed` is then how many octets they
 /// have, room or not. Returns 0, or 1 if DER doesn't have a value.

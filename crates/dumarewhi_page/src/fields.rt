@@ -1,26 +1,6 @@
-//! The type of an input, and the names of its elements there.
-use crate::room::put;
-use der_known::KnownTypes;
-use der_schema::schema::Schema;
-use der_schema::{Name, Namer};
-use der_walk::{Rules, Walk};
-use std::fmt;
-
-/// The first known type that an input is of, and the name of each of its elements, a line each.
-#[derive(Clone, Copy)]
-struct Fields<'a> {
-    input: &'a [u8],
-}
-
-impl fmt::Display for Fields<'_> {
-    fn fmt<W: fmt::Write>(&self, f: &mut fmt::Formatter<W>) -> fmt::Result {
-        let types = KnownTypes::new();
-        match types.type_of(self.input, Rules::Ber) {
-            Some(schema) => write_fields(f, self.input, schema),
-            None => Ok(()),
-        }
-    }
-}
+//! The call that writes the type of an input, and the names of its elements there.
+use page_texts::fields::Fields;
+use page_texts::room::put;
 
 /// Writes the first known type that an input is of, and after a line's end the name of each element that `page_list`
 /// lists, which may be empty. Nothing if the input is of no known type. It returns the length of the text, as the calls
@@ -28,28 +8,4 @@ impl fmt::Display for Fields<'_> {
 #[unsafe(no_mangle)]
 pub extern "C" fn page_fields(input: &[u8], text: &mut [u8]) -> usize {
     put(text, Fields { input })
-}
-
-fn write_fields<W: fmt::Write>(
-    f: &mut fmt::Formatter<W>,
-    input: &[u8],
-    schema: Schema<'_>,
-) -> fmt::Result {
-    f.write_str(schema.name)?;
-    let mut walk = Walk::new(input, Rules::Ber, true).keeping_values();
-    let mut namer = Namer::new(input, schema);
-    'elements: loop {
-        match walk.next_element() {
-            Ok(Some(element)) => write_field(f, namer.name_of(&element))?,
-            _ => return Ok(()),
-        }
-    }
-}
-
-fn write_field<W: fmt::Write>(f: &mut fmt::Formatter<W>, name: Option<Name>) -> fmt::Result {
-    f.write_str("\n")?;
-    match name {
-        Some(name) => f.write_str(name.text),
-        None => Ok(()),
-    }
 }

@@ -3,14 +3,8 @@
 #![tactic(auto)]
 
 pub mod canon;
-mod fault;
 pub mod fields;
 pub mod input;
-mod line;
 pub mod lists;
-mod path;
-mod room;
-pub mod row;
-mod rules;
 pub mod shown;
 pub mod texts;

@@ -1,6 +1,6 @@
-//! What an input is, in words.
-use crate::room::put;
-use der_show::{Known, Shown, what_is};
+//! The call that writes what an input is, in words.
+use der_show::what_is;
+use page_texts::shown::put_known;
 
 /// Writes a certificate, a list of revoked certificates or a certification request in words, if the input is one.
 /// `present` is in seconds since 1970-01-01 00:00:00 UTC. It returns the length of the text, as the calls in `texts`.
@@ -10,10 +10,4 @@ pub extern "C" fn page_shown(input: &[u8], present: u64, text: &mut [u8]) -> usi
         Some(known) => put_known(input, &known, present, text),
         None => 0,
     }
-}
-
-fn put_known(input: &[u8], known: &Known<'_>, present: u64, text: &mut [u8]) -> usize {
-    let octets = input;
-    let now = Some(present);
-    put(text, Shown { octets, known, now })
 }

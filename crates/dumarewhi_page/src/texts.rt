@@ -1,21 +1,13 @@
-//! Texts of rows and of errors. Each call writes as many octets of the text, in UTF-8, as there is room for, and
-//! returns the text's length.
-use crate::fault::Fault;
-use crate::line::Line;
-use crate::path::RowPath;
-use crate::room::put;
-use crate::row::PageRow;
-use crate::rules::rules_numbered;
-use der_print::{Limit, Remark, Value};
-use der_walk::{Refusal, Walk};
-
-/// A part of an error.
-enum Part {
-    /// The offset, the path and the cause, as `der` prints them.
-    Whole,
-    Cause,
-    Path,
-}
+//! Calls that write texts of rows and of errors. Each writes as many octets of the text, in UTF-8, as there is room
+//! for, and returns the text's length.
+use der_print::{Remark, Value};
+use der_walk::Walk;
+use page_texts::line::Line;
+use page_texts::path::RowPath;
+use page_texts::room::put;
+use page_texts::row::PageRow;
+use page_texts::rules::rules_numbered;
+use page_texts::texts::{limit_numbered, part_numbered, put_refusal};
 
 /// Writes the name of a row's type or tag.
 #[unsafe(no_mangle)]
@@ -48,13 +40,6 @@ pub extern "C" fn page_line(input: &[u8], row: &PageRow, full: u32, text: &mut [
     put(text, Line { element, limit })
 }
 
-fn limit_numbered(full: u32) -> Limit {
-    match full {
-        0 => Limit::Front,
-        _ => Limit::Whole,
-    }
-}
-
 /// Writes the path to the element of a row.
 #[unsafe(no_mangle)]
 pub extern "C" fn page_path(rows: &[PageRow], number: usize, text: &mut [u8]) -> usize {
@@ -69,33 +54,5 @@ pub extern "C" fn page_refusal(input: &[u8], rules: u32, part: u32, text: &mut [
     match walk.find_fault() {
         Some(refusal) => put_refusal(&walk, refusal, part_numbered(part), text),
         None => 0,
-    }
-}
-
-fn part_numbered(number: u32) -> Part {
-    match number {
-        0 => Part::Whole,
-        1 => Part::Cause,
-        _ => Part::Path,
-    }
-}
-
-fn put_refusal(walk: &Walk<'_>, refusal: Refusal, part: Part, text: &mut [u8]) -> usize {
-    let path = &walk.path(&refusal);
-    let reason = walk.reason(&refusal);
-    match part {
-        Part::Whole => {
-            let offset = refusal.offset;
-            put(
-                text,
-                Fault {
-                    offset,
-                    path,
-                    reason,
-                },
-            )
-        }
-        Part::Cause => put(text, reason),
-        Part::Path => put(text, path),
     }
 }

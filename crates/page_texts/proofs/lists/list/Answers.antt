@@ -4,11 +4,11 @@ use Rattle.der_walk.specs.declared.refusal.Refusal.{Refusal}
 use Rattle.der_walk.specs.Visits.{Extras}
 use Rattle.der_walk.specs.Walked.{VisitsNext, index_in, visited_of}
 use Rattle.der_walk.proofs.Steps.{within}
-use Rattle.dumarewhi_page.specs.declared.row.PageRow.{PageRow}
-use Rattle.dumarewhi_page.specs.Listed.{all_extras}
-use Rattle.dumarewhi_page.specs.Rows.{AreRows, entry_after, entry_in}
-use Rattle.dumarewhi_page.proofs.Listing.{AreLast, around_is, last_none, last_set, rows_none, rows_more}
-use Rattle.dumarewhi_page.proofs.lists.list.Goals as goal
+use Rattle.page_texts.specs.declared.row.PageRow.{PageRow}
+use Rattle.page_texts.specs.Listed.{all_extras}
+use Rattle.page_texts.specs.Rows.{AreRows, entry_after, entry_in}
+use Rattle.page_texts.proofs.Listing.{AreLast, around_is, last_none, last_set, rows_none, rows_more}
+use Rattle.page_texts.proofs.lists.list.Goals as goal
 
 pub elements-init : goal.elements-init
 elements-init c =

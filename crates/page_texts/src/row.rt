@@ -1,6 +1,6 @@
 //! Elements as rows of numbers.
 ghost use Rattle.std.specs.Prelude.{◌≡◌, ◌==◌};
-ghost use Rattle.dumarewhi_page.specs.Rows.{class_numbered, holds_numbered};
+ghost use Rattle.page_texts.specs.Rows.{class_numbered, holds_numbered};
 
 use der_base::header::Class;
 use der_walk::{Element, Rules, Step, TypeName};
@@ -37,7 +37,7 @@ pub struct PageRow {
 
 impl PageRow {
     ghost use Rattle.der_walk.specs.Walked.{visited_of};
-    ghost use Rattle.dumarewhi_page.specs.Rows.{entry_in, visited_in};
+    ghost use Rattle.page_texts.specs.Rows.{entry_in, visited_in};
 
     /// The row of an element inside the element with the row `around`.
     pub(crate) fn new(element: &Element<'_>, around: usize) -> PageRow
@@ -64,7 +64,7 @@ impl PageRow {
     }
 
     /// The element of an input with this row.
-    pub(crate) fn element<'a>(&self, input: &'a [u8]) -> Element<'a>
+    pub fn element<'a>(&self, input: &'a [u8]) -> Element<'a>
         ensures { visited_of result ≡ visited_in self.now }
     {
         let begin = self.offset.saturating_add(self.header);
@@ -90,7 +90,7 @@ impl PageRow {
     }
 
     /// The name of its type or tag.
-    pub(crate) fn name(&self) -> TypeName {
+    pub fn name(&self) -> TypeName {
         TypeName {
             class: class_numbered(self.tag_class),
             number: self.number,

@@ -7,7 +7,7 @@ use Rattle.der_base.specs.declared.rules.Rules.{Rules}
 use Rattle.der_base.specs.declared.rules.Rules.TheVariants.{Ber, Der}
 use Rattle.der_walk.specs.Visits.{Visited}
 use Rattle.der_walk.specs.Walked.{index_in}
-use Rattle.dumarewhi_page.specs.declared.row.PageRow.{PageRow}
+use Rattle.page_texts.specs.declared.row.PageRow.{PageRow}
 
 -- the class with this number in the first two bits of an identifier octet (X.690 8.1.2.2)
 abbrev pub class_numbered : ℕ → Class

@@ -3,8 +3,8 @@ use Rattle.std.proofs.Common.{◌≡◌, ℕ, zero, suc, ◌+◌, ◌-◌, ◌<�
 use Rattle.std.proofs.lemmas.Bool.Decides.{eqb_tells}
 use Rattle.std.proofs.lemmas.List.{take_all, take_more_set, take-append-le, map-append, append-nil, set_past, length-set, get_or-replicate, get_or-set_same, get_or-set_other, length-replicate}
 use Rattle.der_walk.specs.Visits.{Visited}
-use Rattle.dumarewhi_page.specs.declared.row.PageRow.{PageRow}
-use Rattle.dumarewhi_page.specs.Rows.{AreRows, Entry, around_in, entries_after, entry_after, entry_in, last_with}
+use Rattle.page_texts.specs.declared.row.PageRow.{PageRow}
+use Rattle.page_texts.specs.Rows.{AreRows, Entry, around_in, entries_after, entry_after, entry_in, last_with}
 
 below_or_not : (n m : ℕ) → (n < m) ⊎ (m ≤ n)
 below_or_not n zero = inr (omega arith)

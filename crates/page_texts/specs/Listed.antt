@@ -5,9 +5,9 @@ use Rattle.der_walk.specs.declared.refusal.Refusal.{Refusal}
 use Rattle.der_walk.specs.declared.walk.Walk.{Walk}
 use Rattle.der_walk.specs.Visits.{Extras, Visited, Visits}
 use Rattle.der_walk.specs.Walked.{IsRefused}
-use Rattle.dumarewhi_page.specs.declared.lists.PageOutcome.{PageOutcome}
-use Rattle.dumarewhi_page.specs.declared.row.PageRow.{PageRow}
-use Rattle.dumarewhi_page.specs.Rows.{AreRows}
+use Rattle.page_texts.specs.declared.lists.PageOutcome.{PageOutcome}
+use Rattle.page_texts.specs.declared.row.PageRow.{PageRow}
+use Rattle.page_texts.specs.Rows.{AreRows}
 
 -- strings that hold DER are entered, and by BER values that break their type are kept
 abbrev pub all_extras : Extras

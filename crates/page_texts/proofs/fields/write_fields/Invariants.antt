@@ -3,8 +3,8 @@ use Rattle.der_base.specs.declared.rules.Rules.{Rules}
 use Rattle.der_walk.specs.Ends.{octets_ahead}
 use Rattle.der_walk.specs.Visits.{Visited}
 use Rattle.der_walk.specs.Walked.{HasVisited}
-use Rattle.dumarewhi_page.specs.Listed.{all_extras}
-use Rattle.dumarewhi_page.proofs.fields.write_fields.Given as goal
+use Rattle.page_texts.specs.Listed.{all_extras}
+use Rattle.page_texts.proofs.fields.write_fields.Given as goal
 
 -- the elements so far were visited
 abbrev pub invariant-elements : goal.invariant-elements

@@ -4,7 +4,7 @@ use std::fmt;
 
 /// Where and why an element is refused, as `at 13, SEQUENCE[0].INTEGER[1]: a number has no octets (X.690 8.3.1)`.
 #[derive(Clone, Copy)]
-pub(crate) struct Fault<'a> {
+pub struct Fault<'a> {
     /// Where the element begins.
     pub offset: usize,
     pub path: &'a Path,

@@ -13,7 +13,7 @@ use Rattle.der_input.specs.declared.pem.Block.{Block}
 use Rattle.der_input.specs.Blocks.{BeginsWithBlock, BreaksBlock, RefusesLines, SpellsLines, label_of, lines_of}
 use Rattle.der_input.specs.Forms.{FindsForm, FindsNoForm, HasNoBlock}
 use Rattle.der_input.specs.Plain.{characters_of, digits_of}
-use Rattle.dumarewhi_page.specs.declared.input.PageBlock.{PageBlock}
+use Rattle.page_texts.specs.declared.input.PageBlock.{PageBlock}
 
 -- forms and errors by numbers
 abbrev pub form_number : Form → ℕ

@@ -1,8 +1,8 @@
 use Rattle.std.proofs.Common.{true, false, [], ◌∷◌, ◌++◌}
 use Rattle.der_base.specs.declared.rules.Rules.{Rules}
 use Rattle.der_walk.specs.Walked.{visited_of}
-use Rattle.dumarewhi_page.specs.Listed.{all_extras}
-use Rattle.dumarewhi_page.proofs.fields.write_fields.Goals as goal
+use Rattle.page_texts.specs.Listed.{all_extras}
+use Rattle.page_texts.proofs.fields.write_fields.Goals as goal
 
 pub elements-init : goal.elements-init
 elements-init g c = (

@@ -28,7 +28,7 @@ impl fmt::Write for Room<'_> {
 }
 
 /// Writes a text to a buffer as far as there is room. Returns the length of the text.
-pub(crate) fn put<D: fmt::Display + Drop>(octets: &mut [u8], what: D) -> usize {
+pub fn put<D: fmt::Display + Drop>(octets: &mut [u8], what: D) -> usize {
     let mut room = Room { octets, length: 0 };
     let _ = write!(room, "{what}");
     room.length

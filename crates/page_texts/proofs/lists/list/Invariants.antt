@@ -2,10 +2,10 @@ use Rattle.std.proofs.Common.{List}
 use Rattle.der_walk.specs.Ends.{octets_ahead}
 use Rattle.der_walk.specs.Visits.{Visited}
 use Rattle.der_walk.specs.Walked.{HasVisited}
-use Rattle.dumarewhi_page.specs.Listed.{all_extras}
-use Rattle.dumarewhi_page.specs.Rows.{AreRows}
-use Rattle.dumarewhi_page.proofs.Listing.{AreLast}
-use Rattle.dumarewhi_page.proofs.lists.list.Given as goal
+use Rattle.page_texts.specs.Listed.{all_extras}
+use Rattle.page_texts.specs.Rows.{AreRows}
+use Rattle.page_texts.proofs.Listing.{AreLast}
+use Rattle.page_texts.proofs.lists.list.Given as goal
 
 -- the elements so far were visited and listed
 abbrev pub invariant-elements : goal.invariant-elements

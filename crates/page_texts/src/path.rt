@@ -5,7 +5,7 @@ use std::fmt;
 
 /// The path to the element of a row, as `SEQUENCE[0].[3].INTEGER[1]`.
 #[derive(Clone, Copy)]
-pub(crate) struct RowPath<'a> {
+pub struct RowPath<'a> {
     pub rows: &'a [PageRow],
     /// The number of the row, from 0.
     pub number: usize,

@@ -6,7 +6,7 @@ use std::fmt;
 /// The line of an element as `der tree` prints it: where it begins, how many octets its header and its content have,
 /// its type, two columns further in for each element around it, and its value.
 #[derive(Clone, Copy)]
-pub(crate) struct Line<'a> {
+pub struct Line<'a> {
     pub element: Element<'a>,
     /// How much is printed of a long value.
     pub limit: Limit,

@@ -1,0 +1,10 @@
+//! What an input is, in words.
+use crate::room::put;
+use der_show::{Known, Shown};
+
+/// Writes what an input is, in words. Returns the length of the text.
+pub fn put_known(input: &[u8], known: &Known<'_>, present: u64, text: &mut [u8]) -> usize {
+    let octets = input;
+    let now = Some(present);
+    put(text, Shown { octets, known, now })
+}
