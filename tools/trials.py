@@ -1,10 +1,15 @@
-"""A copy of the repository in which `rt try` finds the crates of tests beside the others."""
+"""A copy of the repository in which `rt try` finds the crates of tests beside the others. Run as a program, it is
+`rt try` without its search for names that a check would refuse, which takes as long again."""
+import importlib.util
 import pathlib
 import shutil
+import sys
 
 ROOT = pathlib.Path(__file__).resolve().parent.parent
 # The folders of crates: those that the gate proves, and tests.
 CRATES, TESTS = ROOT / "crates", ROOT / "tests"
+# The files that say which libraries a crate uses.
+LISTS = [ROOT / "crates.txt", TESTS / "libraries.txt"]
 
 
 def names_in(folder):
@@ -15,6 +20,12 @@ def names_in(folder):
 def folder_of(name):
     """The folder of a crate, of tests or of the others."""
     return next(it / name for it in (TESTS, CRATES) if (it / name / "src").is_dir())
+
+
+def uses():
+    """The libraries that each crate uses, of the repository's and of the kit's."""
+    lines = [it.partition(":") for file in LISTS for it in file.read_text().splitlines() if not it.startswith("#")]
+    return {head.split()[0]: set(used.split()) for head, _, used in lines if head}
 
 
 def copied_name(src, at):
@@ -36,9 +47,32 @@ def copy_crate(crate, to):
 
 def copy_repository(room):
     """Makes the copy in an empty folder. Each crate is in `crates` there."""
-    lists = [ROOT / "crates.txt", TESTS / "libraries.txt"]
-    (room / "crates.txt").write_text("".join(it.read_text() for it in lists))
+    (room / "crates.txt").write_text("".join(it.read_text() for it in LISTS))
     (room / ".git").mkdir()
     for folder in (CRATES, TESTS):
         for name in names_in(folder):
             copy_crate(folder / name, room / "crates" / name)
+
+
+def add_program(room, name, used):
+    """Adds a program to the copy that does nothing and uses these libraries. Static ones are as others from then on."""
+    (room / "crates" / name / "src").mkdir(parents=True)
+    (room / "crates" / name / "src/main.rt").write_text("fn main(_rt: HostRuntime) {}\n")
+    lists = (room / "crates.txt").read_text().replace(" staticlib:", ":")
+    (room / "crates.txt").write_text(f"{lists}{name}: {' '.join(used)}\n")
+
+
+def main(words):
+    """Does what `rt try` does with these words, by the kit's own module, but for the search for names."""
+    command = shutil.which("rt") or sys.exit("there is no command rt")
+    spec = importlib.util.spec_from_file_location("rtlib", pathlib.Path(command).resolve().parent / "rtlib.py")
+    kit = sys.modules["rtlib"] = importlib.util.module_from_spec(spec)
+    spec.loader.exec_module(kit)
+    # (the search is a check by this command, of which `rt try` wants nothing but what it says of names)
+    kit.RATTLE = "true"
+    return kit.main("try", *words)
+
+
+if __name__ == "__main__":
+    sys.dont_write_bytecode = True
+    sys.exit(main(sys.argv[1:]))
