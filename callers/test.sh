@@ -179,9 +179,9 @@ run_c() {
     shown=yes
     for name in layout rows errors stack fields; do says "$name" "$room/$name"; done
     says "writer" "$room/writer" "$room"
-    says "rows of the library's tests" "$room/tables" ../tests/*/data/*.rows
-    says "rows about certificates" "$room/certificate_rows" ../tests/rows_of_certificates/data/*.rows \
-        ../tests/rows_of_messages/data/messages.rows
+    says "rows of the library's tests" "$room/tables" ../tests/rows*/data/*/*.rows
+    says "rows about certificates" "$room/certificate_rows" ../tests/rows/data/certificates/*.rows \
+        ../tests/rows/data/messages/messages.rows
     shown=
 
     prints "first" 0 "$(printf 'type 16, octets 2 to 8\ntype 2, octets 4 to 5\ntype 1, octets 7 to 8')" "$room/first"
@@ -364,7 +364,7 @@ make_seeds() {
     while read -r row; do
         number=$((number + 1))
         octets "$row" > "$1/row.$number"
-    done < <(grep -hoE '^([0-9a-f]{2} )+\|' ../tests/rows_of_{certificates,messages}/data/*.rows | tr -d '|' \
+    done < <(grep -hoE '^([0-9a-f]{2} )+\|' ../tests/rows/data/{certificates,messages}/*.rows | tr -d '|' \
         | LC_ALL=C sort -u)
     [ "$number" -gt 0 ]
 }

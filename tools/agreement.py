@@ -40,7 +40,7 @@ def octets_in(field):
 
 
 def inputs_of_rows():
-    lines = [line for file in sorted(ROOT.glob("tests/*/data/*.rows")) for line in file.read_text().splitlines()]
+    lines = [line for file in sorted(ROOT.glob("tests/rows*/data/*/*.rows")) for line in file.read_text().splitlines()]
     found = [octets_in(line.split("|")[0]) for line in lines if "|" in line]
     return sorted({it for it in found if it})
 

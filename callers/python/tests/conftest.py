@@ -103,7 +103,7 @@ class Row(NamedTuple):
 
 def rows() -> Iterator[Row]:
     """The rows of the library's tests."""
-    for file in sorted((REPOSITORY / "tests").glob("*/data/*.rows")):
+    for file in sorted((REPOSITORY / "tests").glob("rows*/data/*/*.rows")):
         calls: List[str] = []
         for line in file.read_text().splitlines():
             if line.startswith("["):

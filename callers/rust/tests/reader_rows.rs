@@ -62,7 +62,7 @@ fn text_of(error: Error) -> String {
 #[test]
 fn rows() {
     let path = format!(
-        "{}/../../tests/rows_of_cursor/data/values.rows",
+        "{}/../../tests/rows/data/cursor/values.rows",
         env!("CARGO_MANIFEST_DIR")
     );
     let text = std::fs::read_to_string(path).unwrap();

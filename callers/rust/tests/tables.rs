@@ -40,10 +40,9 @@ const CUT: &[&str] = &["the input is cut, at least ", "Cut "];
 fn files() -> io::Result<Vec<PathBuf>> {
     let tests = Path::new(env!("CARGO_MANIFEST_DIR")).join("../../tests");
     let mut files = Vec::new();
-    for folder in fs::read_dir(&tests)? {
-        let data = folder?.path().join("data");
-        if data.is_dir() {
-            for file in fs::read_dir(data)? {
+    for program in ["rows", "rows_of_objects"] {
+        for area in fs::read_dir(tests.join(program).join("data"))? {
+            for file in fs::read_dir(area?.path())? {
                 files.push(file?.path());
             }
         }

@@ -488,7 +488,7 @@ fn beside_openssl() {
 /// The rows of the library's tests of a call.
 fn rows(file: &str, call: &str) -> Vec<(String, String)> {
     let path = format!(
-        "{}/../../tests/rows_of_certificates/data/{file}.rows",
+        "{}/../../tests/rows/data/certificates/{file}.rows",
         env!("CARGO_MANIFEST_DIR")
     );
     let text = std::fs::read_to_string(path).unwrap();
@@ -684,7 +684,7 @@ fn rows_of_further_extensions() {
 /// Rows that change an input: `to 9` cuts it, and `8=03` sets an octet or adds one.
 fn try_changes(file: &str, call: &str, read: impl Fn(&[u8]) -> Result<(), Error>) {
     let path = format!(
-        "{}/../../tests/rows_of_certificates/data/{file}.rows",
+        "{}/../../tests/rows/data/certificates/{file}.rows",
         env!("CARGO_MANIFEST_DIR")
     );
     let text = std::fs::read_to_string(path).unwrap();

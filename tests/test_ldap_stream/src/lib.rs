@@ -1,9 +1,6 @@
 //! Reads messages of LDAP (RFC 4511) from a stream that may be cut anywhere, and prints each: number, operation, result
 //! and names.
 
-#[cfg(test)]
-mod streams;
-
 use anyhow::{Result, bail};
 use der_base::error::{Err as Refused, Needed};
 use der_cursor::FieldRefusal;

@@ -1,0 +1,83 @@
+//! The names and paths that the types of der_known give elements, beside those of asn1crypto, which `tools/field-names`
+//! writes.
+//!
+//! A line of input has the name of a type, ascending offsets of elements, and the octets. The line of output has the
+//! names of these elements, or with the argument `paths` their paths, and the first known type that the octets are of.
+//! SNMP, LDAP and Kerberos, which asn1crypto doesn't read, have no offsets, or names and paths as their documents say.
+
+use anyhow::{Context, Result};
+use der_base::rules::Rules;
+use der_known::KnownTypes;
+use der_schema::schema::Type;
+use der_schema::{
+    KnownType, Name, NamePath, Namer, Schema, field, first_named, first_of, optional, set, string,
+    universal,
+};
+use der_walk::Walk;
+use std::env;
+use std::io::Read;
+
+/// A SET, which none of the known types has.
+const SETS: &[KnownType] = &[KnownType { name: "SetOfThree", components: &[field!("" SET_OF_THREE)] }];
+
+const SET_OF_THREE: Type = set![
+    field!("flag" universal!(1)),
+    field!("number" universal!(2)),
+    optional!("text" string!(12)),
+];
+
+/// Prints the names or the paths of each input.
+pub fn print_input(rt: &HostRuntime) -> Result<()> {
+    let has_paths = env::args(rt)?.skip(2).next().is_some();
+    let known = KnownTypes::new();
+    let mut input = String::new(rt.alloc());
+    rt.stdin().read_to_string(&mut input)?;
+    for line in input.lines() {
+        let (asked, octets) = line.split_once(';').context("octets")?;
+        let (name, offsets) = asked.split_once(' ').unwrap_or((asked, ""));
+        let octets = hex::decode(rt.alloc(), octets)?;
+        let set = first_named(SETS, &[], name);
+        let schema = known.type_named(name).or(set).context("a known type")?;
+        print_names(rt, &octets, schema, offsets, has_paths)?;
+        let set = first_of(SETS, &[], &octets, Rules::Der);
+        let found = known.type_of(&octets, Rules::Der).or(set);
+        println!(rt; "{}", found.map_or("none", |it| it.name))?;
+    }
+    Ok(())
+}
+
+/// Prints the names or the paths of the elements at these offsets, which ascend.
+fn print_names(
+    rt: &HostRuntime,
+    octets: &[u8],
+    schema: Schema<'_>,
+    offsets: &str,
+    has_paths: bool,
+) -> Result<()> {
+    let mut walk = Walk::new(octets, Rules::Der, true);
+    let mut namer = Namer::new(octets, schema);
+    let mut path = NamePath::new();
+    let mut asked = offsets.split_ascii_whitespace();
+    let mut next = asked.next();
+    while let Ok(Some(element)) = walk.next_element() {
+        let name = namer.name_of(&element);
+        path.enter(&element, name);
+        if let Some(offset) = next {
+            if offset.parse::<usize>()? == element.offset {
+                print_one(rt, name, &path, has_paths)?;
+                next = asked.next();
+            }
+        }
+    }
+    Ok(())
+}
+
+/// Prints a name or a path.
+fn print_one(rt: &HostRuntime, name: Option<Name>, path: &NamePath, has_paths: bool) -> Result<()> {
+    if has_paths {
+        print!(rt; "{path} ")?;
+    } else {
+        print!(rt; "{} ", name.map_or("?", |it| it.text))?;
+    }
+    Ok(())
+}

@@ -1,0 +1,69 @@
+//! Messages of SNMP, LDAP and Kerberos, and the names of a certificate.
+use crate::messages::keys::Printed;
+use crate::messages::request_fields::Requested;
+use anyhow::{Result, anyhow};
+use der_x509::read_certificate;
+use kerberos_reader::read_request;
+use message_text::{LdapText, RequestText, SnmpText};
+use name_text::NameText;
+use test_ldap_stream::print_messages;
+
+/// Prints the issuer and the subject of a certificate.
+pub fn print_names(rt: &HostRuntime, input: &[u8]) -> Result<()> {
+    let fields = read_certificate(input).map_err(|e| anyhow!("{e}"))?.tbs_certificate;
+    let (issuer, subject) = (NameText { name: fields.issuer }, NameText { name: fields.subject });
+    let text = format!(in rt.alloc(); "issuer={issuer}\nsubject={subject}")?;
+    println!(rt; "{text}")?;
+    Ok(())
+}
+
+/// Prints the request for a ticket.
+pub fn print_request(rt: &HostRuntime, input: &[u8], printed: Printed) -> Result<()> {
+    let request = read_request(rt.alloc(), input)?;
+    match printed {
+        Printed::Fields => print!(rt; "{}", Requested(&request))?,
+        Printed::Words => print!(rt; "{}", RequestText { request: &request })?,
+    }
+    Ok(())
+}
+
+/// Prints each message of SNMP, up to one that is refused.
+pub fn print_snmp(rt: &HostRuntime, input: &[u8], printed: Printed) -> Result<()> {
+    let mut rest = input;
+    // Each message has an octet or more, so the loop ends at the end of the input.
+    for _ in 0..input.len() {
+        if rest.is_empty() {
+            break;
+        }
+        let offset = input.len().saturating_sub(rest.len());
+        let read = snmp_reader::read_message(rt.alloc(), rest);
+        let (after, message) = read.map_err(|e| anyhow!("message at {offset}: {e}"))?;
+        match printed {
+            Printed::Fields => println!(rt; "{message}")?,
+            Printed::Words => print!(rt; "{}", SnmpText { message: &message })?,
+        }
+        rest = after;
+    }
+    Ok(())
+}
+
+/// Prints each message of LDAP, up to one that is refused.
+pub fn print_ldap(rt: &HostRuntime, input: &[u8], printed: Printed) -> Result<()> {
+    if printed == Printed::Fields {
+        let mut stream = input;
+        return print_messages(rt.alloc(), &mut stream, &mut rt.stdout());
+    }
+    let mut rest = input;
+    // Each message has an octet or more, so the loop ends at the end of the input.
+    for _ in 0..input.len() {
+        if rest.is_empty() {
+            break;
+        }
+        let offset = input.len().saturating_sub(rest.len());
+        let read = ldap_reader::read_message(rt.alloc(), rest);
+        let (after, message) = read.map_err(|e| anyhow!("message at {offset}: {e}"))?;
+        print!(rt; "{}", LdapText { message: &message })?;
+        rest = after;
+    }
+    Ok(())
+}
