@@ -1,4 +1,4 @@
-use Rattle.std.proofs.Common.{◌≡◌, ◌≢◌, ◌<◌, Bool, Err, IfOk, IsErr, IsOkAnd, IsTrue, MatchResult, Ok, Result, refl, ℕ}
+use Rattle.std.proofs.Common.{◌≡◌, ◌≢◌, ◌<◌, Err, IfOk, IsErr, IsOkAnd, MatchResult, Ok, Result, refl, ℕ}
 use Rattle.base64.specs.Engines.{standard_pad_indifferent}
 use Rattle.base64.specs.GeneralPurpose.{decode_of as base64_decode_of}
 use Rattle.hex.specs.Hex.{decode_of as hex_decode_of}

@@ -1,4 +1,4 @@
-use Rattle.std.proofs.Common.{◌≡◌, ◌∙◌, Bool, Err, IfOk, IsTrue, Ok, OnOk, Result, false, sym, true}
+use Rattle.std.proofs.Common.{◌≡◌, Bool, Err, IfOk, IsTrue, Ok, OnOk, Result, false, sym, true}
 use Rattle.std.specs.Prelude.{not}
 use Rattle.der_cli.specs.Shown.{AddsWords, RefusesShown, ShowsRead, ShowsWords, breaks_rule, is_broken, no_words}
 use Rattle.der_cli.proofs.show.show.Goals as goal

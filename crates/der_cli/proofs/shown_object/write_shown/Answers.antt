@@ -1,4 +1,4 @@
-use Rattle.std.proofs.Common.{◌≡◌, ◌∙◌, OnOk, ap, drop, subst, take}
+use Rattle.std.proofs.Common.{◌≡◌, ◌∙◌, OnOk, ap, subst, take}
 use Rattle.show_json.specs.Objects.{shown_text}
 use Rattle.der_cli.specs.Shown.{AddsObject, source_of, words_object}
 use Rattle.der_cli.proofs.shown_object.write_shown.Goals as goal
