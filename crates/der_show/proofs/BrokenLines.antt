@@ -3,8 +3,7 @@ use Rattle.std.proofs.Common.{◌≡◌, ◌++◌, ◌∷◌, [], List, ℕ, app
 use Rattle.std.specs.List.{All}
 use Rattle.std.proofs.lemmas.List.Elements.{All-head, All-tail}
 use Rattle.x509_rule_facts.specs.Firsts.{IsFirstOf}
-use Rattle.name_text.specs.Pieces.{InOrder, Then}
-use Rattle.der_show.specs.Rules.{AreBroken, IsLine, IsRule}
+use Rattle.der_show.specs.Rules.{AreBroken, IsLine}
 
 module _ {R : Type 0} (IsBroken : R → Type 0) (label : List ℕ) where
   -- with any texts of the rules that are left, what was sent makes texts of all of them

@@ -1,4 +1,4 @@
-use Rattle.std.proofs.Common.{[], ◌++◌, ◌∙◌, ap, refl, subst, sym}
+use Rattle.std.proofs.Common.{[], ◌++◌, ◌∙◌, ap, refl}
 use Rattle.std.proofs.Output.{has_written_append, writes_in_calls_nil}
 use Rattle.der_x509.specs.Certificates.{certificate_of}
 use Rattle.x509_rules.specs.Rules.{Breaks}

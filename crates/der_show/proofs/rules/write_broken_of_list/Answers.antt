@@ -1,4 +1,4 @@
-use Rattle.std.proofs.Common.{[], ◌++◌, ◌∙◌, ap, refl, subst, sym}
+use Rattle.std.proofs.Common.{[], ◌++◌, ◌∙◌, ap, refl}
 use Rattle.std.proofs.Output.{has_written_append, writes_in_calls_nil}
 use Rattle.crl_reader.specs.Lists.{certificate_list_of}
 use Rattle.x509_crl_rules.specs.ListRules.{BreaksList, list_in, list_rules_left}
