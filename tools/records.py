@@ -9,7 +9,7 @@ FILE = "wrong-bodies.sums"
 SPOT_CRATES = 12
 # What refuses an edit, by the name of a goal that it leaves open. A clause of the contract comes first.
 KINDS = (
-    ("clause", re.compile(r"returns|\S+-clause-|output")),
+    ("clause", re.compile(r"(?:\S+-)?returns|\S+-clause-|output")),
     ("requires", re.compile(r"\S+-requires")),
     ("measure", re.compile(r"\S*(?:measure|decreases)")),
     ("invariant", re.compile(r"loop-|\S+-preserved")),
