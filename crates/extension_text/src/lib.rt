@@ -1,4 +1,4 @@
-//! Extensions in words (RFC 5280 4.2), a line for each field of their values, and why the value of one isn't of its type.
+//! Extensions in words (RFC 5280 4.2): a line for each field of their values, and why a value isn't of its type.
 //! No call takes memory.
 #![tactic(auto)]
 

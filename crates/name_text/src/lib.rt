@@ -1,5 +1,5 @@
-//! Distinguished names as text (RFC 4514), and what lines of words are made of: identifiers by their names, numbers, times
-//! and values of any type after a label. No call takes memory.
+//! Distinguished names as text (RFC 4514), and what lines of words are made of: identifiers by their names, numbers,
+//! times and values of any type after a label. No call takes memory.
 #![tactic(auto)]
 
 pub mod element;

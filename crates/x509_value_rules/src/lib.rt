@@ -1,5 +1,5 @@
-//! Rules of RFC 5280 about the values of extensions: general names, distribution points, name constraints, policies. And
-//! what the extensions of a certificate, of a CRL or of an entry show.
+//! Rules of RFC 5280 about the values of extensions: general names, distribution points, name constraints, policies.
+//! And what the extensions of a certificate, of a CRL or of an entry show.
 #![tactic(auto)]
 
 mod directory;
