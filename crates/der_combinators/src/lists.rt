@@ -40,12 +40,7 @@ where
     F: FnMut(&'a [u8]) -> IResult<&'a [u8], O, E>,
     ensures { result ≡ ((Ber, Sequence), f) }
 {
-    ListOfValues {
-        rules: Rules::Ber,
-        list: ListType::Sequence,
-        f,
-        alloc,
-    }
+    ListOfValues::new(Rules::Ber, ListType::Sequence, f, alloc)
 }
 
 /// A parser by BER of an element of the tag number 17, SET, which reads its content by `f`,
@@ -55,12 +50,7 @@ where
     F: FnMut(&'a [u8]) -> IResult<&'a [u8], O, E>,
     ensures { result ≡ ((Ber, Set), f) }
 {
-    ListOfValues {
-        rules: Rules::Ber,
-        list: ListType::Set,
-        f,
-        alloc,
-    }
+    ListOfValues::new(Rules::Ber, ListType::Set, f, alloc)
 }
 
 /// A parser by DER of an element of the tag number 16, SEQUENCE, which reads its content by `f`,
@@ -74,12 +64,7 @@ where
     F: FnMut(&'a [u8]) -> IResult<&'a [u8], O, E>,
     ensures { result ≡ ((Der, Sequence), f) }
 {
-    ListOfValues {
-        rules: Rules::Der,
-        list: ListType::Sequence,
-        f,
-        alloc,
-    }
+    ListOfValues::new(Rules::Der, ListType::Sequence, f, alloc)
 }
 
 /// A parser by DER of an element of the tag number 17, SET, which reads its content by `f`,
@@ -89,15 +74,17 @@ where
     F: FnMut(&'a [u8]) -> IResult<&'a [u8], O, E>,
     ensures { result ≡ ((Der, Set), f) }
 {
-    ListOfValues {
-        rules: Rules::Der,
-        list: ListType::Set,
-        f,
-        alloc,
-    }
+    ListOfValues::new(Rules::Der, ListType::Set, f, alloc)
 }
 
 impl<F> ListOfValues<F> {
+    /// The parser that keeps these.
+    fn new(rules: Rules, list: ListType, f: F, alloc: Global) -> ListOfValues<F>
+        ensures { result ≡ ((rules, list), f) }
+    {
+        ListOfValues { rules, list, f, alloc }
+    }
+
     /// Reads as `NumberedContainer::parse` an element of the type's tag number, of any class. The kept
     /// parser is called on its content octets, and then on what each call leaves, also where nothing
     /// is left: its Incomplete there ends the list. Returns the values in their order.
@@ -154,12 +141,7 @@ where
     F: FnMut(&'a [u8]) -> IResult<&'a [u8], BerObject<'a>, E>,
     ensures { result ≡ ((Ber, Sequence), f) }
 {
-    ListOfObjects {
-        rules: Rules::Ber,
-        list: ListType::Sequence,
-        f,
-        alloc,
-    }
+    ListOfObjects::new(Rules::Ber, ListType::Sequence, f, alloc)
 }
 
 /// A parser by BER of an element of the tag number 17, SET, which reads its content by `f`,
@@ -169,12 +151,7 @@ where
     F: FnMut(&'a [u8]) -> IResult<&'a [u8], BerObject<'a>, E>,
     ensures { result ≡ ((Ber, Set), f) }
 {
-    ListOfObjects {
-        rules: Rules::Ber,
-        list: ListType::Set,
-        f,
-        alloc,
-    }
+    ListOfObjects::new(Rules::Ber, ListType::Set, f, alloc)
 }
 
 /// A parser by DER of an element of the tag number 16, SEQUENCE, which reads its content by `f`,
@@ -184,12 +161,7 @@ where
     F: FnMut(&'a [u8]) -> IResult<&'a [u8], BerObject<'a>, E>,
     ensures { result ≡ ((Der, Sequence), f) }
 {
-    ListOfObjects {
-        rules: Rules::Der,
-        list: ListType::Sequence,
-        f,
-        alloc,
-    }
+    ListOfObjects::new(Rules::Der, ListType::Sequence, f, alloc)
 }
 
 /// A parser by DER of an element of the tag number 17, SET, which reads its content by `f`,
@@ -199,15 +171,17 @@ where
     F: FnMut(&'a [u8]) -> IResult<&'a [u8], BerObject<'a>, E>,
     ensures { result ≡ ((Der, Set), f) }
 {
-    ListOfObjects {
-        rules: Rules::Der,
-        list: ListType::Set,
-        f,
-        alloc,
-    }
+    ListOfObjects::new(Rules::Der, ListType::Set, f, alloc)
 }
 
 impl<F> ListOfObjects<F> {
+    /// The parser that keeps these.
+    fn new(rules: Rules, list: ListType, f: F, alloc: Global) -> ListOfObjects<F>
+        ensures { result ≡ ((rules, list), f) }
+    {
+        ListOfObjects { rules, list, f, alloc }
+    }
+
     /// Reads as `ListOfValues::parse`, with its errors and its OutOfMemory. Returns the SEQUENCE or the
     /// SET of the items, as `BerObject::from_seq` or `BerObject::from_set` makes it.
     #[inline(always)]
@@ -251,11 +225,7 @@ where
     F: FnMut(&'a [u8]) -> IResult<&'a [u8], Vec<BerObject<'a>>, E>,
     ensures { result ≡ ((Ber, Sequence), f) }
 {
-    ListObject {
-        rules: Rules::Ber,
-        list: ListType::Sequence,
-        f,
-    }
+    ListObject::new(Rules::Ber, ListType::Sequence, f)
 }
 
 /// A parser by BER of an element of the tag number 17, SET, whose items `f` reads from its
@@ -265,11 +235,7 @@ where
     F: FnMut(&'a [u8]) -> IResult<&'a [u8], Vec<BerObject<'a>>, E>,
     ensures { result ≡ ((Ber, Set), f) }
 {
-    ListObject {
-        rules: Rules::Ber,
-        list: ListType::Set,
-        f,
-    }
+    ListObject::new(Rules::Ber, ListType::Set, f)
 }
 
 /// A parser by DER of an element of the tag number 16, SEQUENCE, whose items `f` reads from its
@@ -279,11 +245,7 @@ where
     F: FnMut(&'a [u8]) -> IResult<&'a [u8], Vec<BerObject<'a>>, E>,
     ensures { result ≡ ((Der, Sequence), f) }
 {
-    ListObject {
-        rules: Rules::Der,
-        list: ListType::Sequence,
-        f,
-    }
+    ListObject::new(Rules::Der, ListType::Sequence, f)
 }
 
 /// A parser by DER of an element of the tag number 17, SET, whose items `f` reads from its
@@ -293,14 +255,17 @@ where
     F: FnMut(&'a [u8]) -> IResult<&'a [u8], Vec<BerObject<'a>>, E>,
     ensures { result ≡ ((Der, Set), f) }
 {
-    ListObject {
-        rules: Rules::Der,
-        list: ListType::Set,
-        f,
-    }
+    ListObject::new(Rules::Der, ListType::Set, f)
 }
 
 impl<F> ListObject<F> {
+    /// The parser that keeps these.
+    fn new(rules: Rules, list: ListType, f: F) -> ListObject<F>
+        ensures { result ≡ ((rules, list), f) }
+    {
+        ListObject { rules, list, f }
+    }
+
     /// Reads as `NumberedContainer::parse`, and calls the kept parser on the content octets alone.
     /// Returns the SEQUENCE or the SET of the items, as `BerObject::from_seq` or `BerObject::from_set`
     /// makes it.

@@ -40,11 +40,7 @@ where
     F: FnMut(&'a [u8], Header<'a>) -> IResult<&'a [u8], O, E>,
     ensures { result ≡ ((Ber, tag.0), f) }
 {
-    ExplicitContainer {
-        rules: Rules::Ber,
-        tag,
-        f,
-    }
+    ExplicitContainer::new(Rules::Ber, tag, f)
 }
 
 /// A parser by DER of an explicit tag of this number (X.690 8.14.2), which hands its content and
@@ -62,14 +58,17 @@ where
     F: FnMut(&'a [u8], Header<'a>) -> IResult<&'a [u8], O, E>,
     ensures { result ≡ ((Der, tag.0), f) }
 {
-    ExplicitContainer {
-        rules: Rules::Der,
-        tag,
-        f,
-    }
+    ExplicitContainer::new(Rules::Der, tag, f)
 }
 
 impl<F> ExplicitContainer<F> {
+    /// The parser that keeps these.
+    fn new(rules: Rules, tag: Tag, f: F) -> ExplicitContainer<F>
+        ensures { result ≡ ((rules, tag.0), f) }
+    {
+        ExplicitContainer { rules, tag, f }
+    }
+
     /// Reads as `Container::parse` an element that is an explicit tag of the number:
     /// constructed, and of any class but Universal.
     ///
@@ -115,11 +114,7 @@ where
     F: FnMut(&'a [u8], Header<'a>, usize) -> IResult<&'a [u8], O, E>,
     ensures { result ≡ ((Ber, tag.0), f) }
 {
-    ImplicitContainer {
-        rules: Rules::Ber,
-        tag,
-        f,
-    }
+    ImplicitContainer::new(Rules::Ber, tag, f)
 }
 
 /// A parser by DER of an element under an implicit tag of this number (X.690 8.14.3), which hands
@@ -129,14 +124,17 @@ where
     F: FnMut(&'a [u8], Header<'a>, usize) -> IResult<&'a [u8], O, E>,
     ensures { result ≡ ((Der, tag.0), f) }
 {
-    ImplicitContainer {
-        rules: Rules::Der,
-        tag,
-        f,
-    }
+    ImplicitContainer::new(Rules::Der, tag, f)
 }
 
 impl<F> ImplicitContainer<F> {
+    /// The parser that keeps these.
+    fn new(rules: Rules, tag: Tag, f: F) -> ImplicitContainer<F>
+        ensures { result ≡ ((rules, tag.0), f) }
+    {
+        ImplicitContainer { rules, tag, f }
+    }
+
     /// Reads as `Container::parse` an element of the number, of any class, constructed or not. The
     /// parser gets the header with the definite length of the content octets, so it may read them as
     /// those of the type under the tag.
@@ -183,12 +181,7 @@ where
     F: FnMut(&'a [u8]) -> IResult<&'a [u8], BerObject<'a>, E>,
     ensures { result ≡ ((Ber, tag.0), f) }
 {
-    ExplicitObject {
-        rules: Rules::Ber,
-        tag,
-        f,
-        alloc,
-    }
+    ExplicitObject::new(Rules::Ber, tag, f, alloc)
 }
 
 /// A parser by DER of an object inside an explicit tag of this number (X.690 8.14.2), which `f`
@@ -198,15 +191,17 @@ where
     F: FnMut(&'a [u8]) -> IResult<&'a [u8], BerObject<'a>, E>,
     ensures { result ≡ ((Der, tag.0), f) }
 {
-    ExplicitObject {
-        rules: Rules::Der,
-        tag,
-        f,
-        alloc,
-    }
+    ExplicitObject::new(Rules::Der, tag, f, alloc)
 }
 
 impl<F> ExplicitObject<F> {
+    /// The parser that keeps these.
+    fn new(rules: Rules, tag: Tag, f: F, alloc: Global) -> ExplicitObject<F>
+        ensures { result ≡ ((rules, tag.0), f) }
+    {
+        ExplicitObject { rules, tag, f, alloc }
+    }
+
     /// Reads as `ExplicitContainer::parse`, and calls the kept parser on the content octets alone.
     /// Returns the content `Tagged`, with the class and the number of the tag and the object in a box,
     /// under the header of the tag. The box may run out of memory, after the call of the parser.
@@ -253,11 +248,7 @@ where
     F: FnMut(&'a [u8], &Header<'a>, usize) -> IResult<&'a [u8], BerObjectContent<'a>, E>,
     ensures { result ≡ ((Ber, tag.0), f) }
 {
-    ImplicitObject {
-        rules: Rules::Ber,
-        tag,
-        f,
-    }
+    ImplicitObject::new(Rules::Ber, tag, f)
 }
 
 /// A parser by DER of an object under an implicit tag of this number (X.690 8.14.3), whose content
@@ -267,14 +258,17 @@ where
     F: FnMut(&'a [u8], &Header<'a>, usize) -> IResult<&'a [u8], BerObjectContent<'a>, E>,
     ensures { result ≡ ((Der, tag.0), f) }
 {
-    ImplicitObject {
-        rules: Rules::Der,
-        tag,
-        f,
-    }
+    ImplicitObject::new(Rules::Der, tag, f)
 }
 
 impl<F> ImplicitObject<F> {
+    /// The parser that keeps these.
+    fn new(rules: Rules, tag: Tag, f: F) -> ImplicitObject<F>
+        ensures { result ≡ ((rules, tag.0), f) }
+    {
+        ImplicitObject { rules, tag, f }
+    }
+
     /// Reads as `ImplicitContainer::parse`. Returns the object of the content that the kept parser
     /// returns, under the header that the parser gets.
     #[inline(always)]

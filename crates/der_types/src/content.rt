@@ -255,25 +255,24 @@ pub struct ContentReader {
 pub fn parse_ber_content(alloc: Global, tag: Tag) -> ContentReader
     ensures { (result.rules ≡ Rules.Ber) × (result.tag ≡ tag) }
 {
-    ContentReader {
-        rules: Rules::Ber,
-        tag,
-        alloc,
-    }
+    ContentReader::new(Rules::Ber, tag, alloc)
 }
 
 /// The reader of contents of this universal type by DER.
 pub fn parse_der_content(alloc: Global, tag: Tag) -> ContentReader
     ensures { (result.rules ≡ Rules.Der) × (result.tag ≡ tag) }
 {
-    ContentReader {
-        rules: Rules::Der,
-        tag,
-        alloc,
-    }
+    ContentReader::new(Rules::Der, tag, alloc)
 }
 
 impl ContentReader {
+    /// The parser that keeps these.
+    fn new(rules: Rules, tag: Tag, alloc: Global) -> ContentReader
+        ensures { (result.rules ≡ rules) × (result.tag ≡ tag) }
+    {
+        ContentReader { rules, tag, alloc }
+    }
+
     /// Reads the content after a header as `ber_read_element_content_as` or
     /// `der_read_element_content_as`, with the header's length and constructed bit. The header's class
     /// and tag number are ignored.
@@ -313,25 +312,24 @@ pub struct ContentReader2 {
 pub fn parse_ber_content2(alloc: Global, tag: Tag) -> ContentReader2
     ensures { (result.rules ≡ Rules.Ber) × (result.tag ≡ tag) }
 {
-    ContentReader2 {
-        rules: Rules::Ber,
-        tag,
-        alloc,
-    }
+    ContentReader2::new(Rules::Ber, tag, alloc)
 }
 
 /// The reader of contents of this universal type by DER, after headers by value.
 pub fn parse_der_content2(alloc: Global, tag: Tag) -> ContentReader2
     ensures { (result.rules ≡ Rules.Der) × (result.tag ≡ tag) }
 {
-    ContentReader2 {
-        rules: Rules::Der,
-        tag,
-        alloc,
-    }
+    ContentReader2::new(Rules::Der, tag, alloc)
 }
 
 impl ContentReader2 {
+    /// The parser that keeps these.
+    fn new(rules: Rules, tag: Tag, alloc: Global) -> ContentReader2
+        ensures { (result.rules ≡ rules) × (result.tag ≡ tag) }
+    {
+        ContentReader2 { rules, tag, alloc }
+    }
+
     /// Reads as `ContentReader::parse`.
     pub fn parse<'a>(
         &self,
