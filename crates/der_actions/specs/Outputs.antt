@@ -5,7 +5,7 @@ use Rattle.der_base.specs.declared.rules.Rules.{Rules}
 use Rattle.der_canon.specs.declared.error.CanonError.TheVariants as canon
 use Rattle.der_canon.specs.declared.error.NotCanonical.{NotCanonical}
 use Rattle.der_canon.specs.Errors.{IsCanonErrorOf}
-use Rattle.der_canon.specs.Same.{IsDerOf}
+use Rattle.der_canon.specs.Written.{IsDerOf}
 use Rattle.der_check.specs.Elements.{AreElements}
 use Rattle.der_json.specs.Json.{AddsJson, IsJson}
 use Rattle.der_print.specs.Lines.{AddsLineOf as AddsTreeLine, IsLineOf as IsTreeLine, content_in}

@@ -22,7 +22,7 @@ use Rattle.der_canon.specs.declared.piece.Form.TheVariants.{Primitive}
 use Rattle.der_canon.specs.declared.piece.Parts.{Parts}
 use Rattle.der_canon.specs.declared.piece.Piece.{Piece}
 use Rattle.der_canon.specs.declared.piece.Pieces.{Pieces}
-use Rattle.der_canon.specs.NoDer.{HasDer, HasNoDer, HaveDer, IsNoPart}
+use Rattle.der_canon.specs.NoDer.{AllHaveDer, HasDer, HasNoDer, HaveDer, IsNoPart}
 use Rattle.der_canon.specs.NoDer.{is_inside, string_after, string_of, unused_after, unused_of}
 use Rattle.der_canon.specs.Same.{no_extras, part_number}
 use Rattle.der_canon.specs.Sizes.{IsSizeOf}
@@ -98,10 +98,6 @@ FindsForm i vs e result = let v = visited_of e in MatchResult result
 -- an error of the whole input
 abbrev pub IsAll : NotCanonical → Type 0
 IsAll e = (e.offset ≡ 0) × (e.cause ≡ NotDer)
-
--- i is elements by BER, and each has a form in DER
-abbrev pub AllHaveDer : List ℕ → Type 0
-AllHaveDer i = (vs : List Visited) × Visits no_extras Ber 101 0 0 i vs × HaveDer i vs
 
 -- DER has too many octets for i to count them. Each element has at most ten times as many in DER, so that i has 2^60
 -- octets or more. It says no offset.

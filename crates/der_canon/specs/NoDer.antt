@@ -9,8 +9,9 @@ use Rattle.der_contents.specs.declared.content_error.ContentError.{ContentError}
 use Rattle.der_contents.specs.ContentRules.{IsContent, IsFirstBroken, content_rules}
 use Rattle.der_walk.specs.declared.cause.Cause.{Cause}
 use Rattle.der_walk.specs.declared.cause.Cause.TheVariants.{OtherPart, UnusedBitsInside, Value}
-use Rattle.der_walk.specs.Visits.{Visited}
-use Rattle.der_canon.specs.Same.{content_of, is_in_parts, part_number}
+use Rattle.der_check.specs.Elements.{AreElements}
+use Rattle.der_walk.specs.Visits.{Visited, Visits}
+use Rattle.der_canon.specs.Same.{content_of, is_in_parts, no_extras, part_number}
 use Rattle.der_canon.specs.Values.{content_in_der}
 
 -- By DER a BOOLEAN and the unused bits of a BIT STRING are written as DER has them, so that BER's rules are enough for
@@ -80,6 +81,14 @@ pub data HaveDer (i : List ℕ) : List Visited → Type 0 where
   none : {vs : List Visited} → vs ≡ [] → HaveDer i vs
   one_more : {vs : List Visited} (before : List Visited) (v : Visited) → HaveDer i before → HasDer i before v
       → vs ≡ before ++ v ∷ [] → HaveDer i vs
+
+-- i is elements by BER, and each has a form in DER
+abbrev pub AllHaveDer : List ℕ → Type 0
+AllHaveDer i = (vs : List Visited) × Visits no_extras Ber 101 0 0 i vs × HaveDer i vs
+
+-- DER has a form of all of i: it is DER already, or each of its elements has one
+abbrev pub HasForm : List ℕ → Type 0
+HasForm i = ¬ AreElements Der 101 i → AllHaveDer i
 
 -- the content of a primitive element is checked for its form
 abbrev pub ChecksForm : ℕ → List ℕ → Result (Unit {0}) Cause → Type 0

@@ -6,7 +6,7 @@ use Rattle.der_base.specs.declared.rules.Rules.TheVariants.{Ber, Der}
 use Rattle.der_base.specs.Encoding.{element}
 use Rattle.der_base.specs.Spelling.{end_marker}
 use Rattle.der_base.specs.Text.{is_one_of, is_within}
-use Rattle.der_check.specs.Elements.{AreElements, MayBeConstructed, MayHaveContent}
+use Rattle.der_check.specs.Elements.{MayBeConstructed, MayHaveContent}
 use Rattle.der_walk.specs.Visits.{Extras, IsHeaderBy, Visited}
 use Rattle.der_walk.specs.Walked.{between}
 use Rattle.der_writer.specs.Octets.{cleared}
@@ -102,9 +102,3 @@ mutual
     string : {d : ℕ} {b p : List ℕ} (c : Class) (t : ℕ) (w x : List ℕ) → IsConstructed c t b w
         → is_string_of c t ≡ true → AreJoined w (string_start t) x → MayHaveContent Der c t x
         → p ≡ element c false t x → IsInDer (suc d) b p
-
--- The octets o are the elements i as DER writes them: what is DER already is written as it is.
-pub record IsDerOf (i o : List ℕ) : Type 0 where
-  pub elements : AreElements Der 101 o
-  pub unchanged : AreElements Der 101 i → o ≡ i
-  pub same : ¬ AreElements Der 101 i → AreInDer 101 i o

@@ -5,6 +5,7 @@ use Rattle.der_base.specs.Octets.{identifier, shortest_length}
 use Rattle.der_base.specs.declared.rules.Rules.TheVariants.{Ber, Der}
 use Rattle.der_check.specs.Elements.{AreElements}
 use Rattle.der_walk.specs.Visits.{Visited, Visits}
+use Rattle.der_canon.specs.NoDer.{HasForm}
 use Rattle.der_canon.specs.Same.{content_of, is_in_parts, is_part, parts_of, no_extras}
 
 -- a content of so many octets, with its length octets (10.1)
@@ -51,7 +52,8 @@ abbrev pub HasSize : List ℕ → ℕ → Type 0
 HasSize i n = (vs : List Visited) × (s : Option ℕ) × (ms rest : List ℕ) × (m : ℕ) × Visits no_extras Ber 101 0 0 i vs
     × HasSizes i vs s ms m × Ends 0 ms m rest n
 
--- DER has n octets for the elements i: those that there are, if they are DER already
+-- DER has a form of all of i, of n octets: those that there are, if they are DER already
 pub record IsSizeOf (i : List ℕ) (n : ℕ) : Type 0 where
+  pub have : HasForm i
   pub unchanged : AreElements Der 101 i → n ≡ length i
   pub others : ¬ AreElements Der 101 i → HasSize i n

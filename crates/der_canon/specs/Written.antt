@@ -6,8 +6,16 @@ use Rattle.der_nodes.specs.Places.{overlay}
 use Rattle.der_walk.specs.declared.cause.Cause.{Cause}
 use Rattle.der_walk.specs.declared.cause.Cause.TheVariants.{NotDer, OtherPart, UnusedBitsInside, Value}
 use Rattle.der_canon.specs.declared.error.NotCanonical.{NotCanonical}
-use Rattle.der_canon.specs.Same.{IsDerOf}
+use Rattle.der_canon.specs.NoDer.{HasForm}
+use Rattle.der_canon.specs.Same.{AreInDer}
 use Rattle.der_canon.specs.Sizes.{IsSizeOf}
+
+-- DER has a form of all of i, and the octets o are i as DER writes it: what is DER already is written as it is
+pub record IsDerOf (i o : List ℕ) : Type 0 where
+  pub have : HasForm i
+  pub elements : AreElements Der 101 o
+  pub unchanged : AreElements Der 101 i → o ≡ i
+  pub same : ¬ AreElements Der 101 i → AreInDer 101 i o
 
 -- DER has so many octets for the input, room or not; if the buffer has them, they are the input as DER writes it
 abbrev pub WritesDer : {E : Type 0} → List ℕ → List ℕ → Result ℕ E → Type 0

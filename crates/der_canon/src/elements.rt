@@ -2,10 +2,11 @@
 ghost use Rattle.std.specs.Prelude.{◌≡◌, ◌≤◌, length, take, IfErr, IfOk, MatchOption, OnOk};
 ghost use Rattle.der_check.specs.Elements.{AreElements};
 ghost use Rattle.der_base.specs.declared.rules.Rules.{Rules};
-ghost use Rattle.der_canon.specs.Same.{AreInDer, IsDerOf};
+ghost use Rattle.der_canon.specs.NoDer.{AllHaveDer};
+ghost use Rattle.der_canon.specs.Same.{AreInDer};
 ghost use Rattle.der_canon.specs.Sizes.{HasSize};
-ghost use Rattle.der_canon.specs.Errors.{AllHaveDer, IsCanonErrorOf, IsErrorOf, NeedsMore};
-ghost use Rattle.der_canon.specs.Written.{IsRefusalOf, KeepsDer, WritesDer};
+ghost use Rattle.der_canon.specs.Errors.{IsCanonErrorOf, IsErrorOf, NeedsMore};
+ghost use Rattle.der_canon.specs.Written.{IsDerOf, IsRefusalOf, KeepsDer, WritesDer};
 
 use crate::error::{CanonError, NotCanonical};
 use crate::octets::copy;
@@ -45,7 +46,6 @@ pub fn canonical_into(octets: &[u8], out: &mut [u8]) -> Result<usize, NotCanonic
     ensures unchanged { KeepsDer octets.now out.old out.new result }
     ensures refused { IfErr result (IsRefusalOf octets.now) }
     ensures error { IfErr result (IsErrorOf octets.now) }
-    ensures have { OnOk result (¬ AreElements Rules.Der 101 octets.now → AllHaveDer octets.now) }
 {
     if are_elements(octets, Rules::Der, MAX_DEPTH + 1) {
         copy(out, octets);

@@ -1,7 +1,8 @@
 //! How many octets elements have in DER.
 ghost use Rattle.std.specs.Prelude.{◌≡◌, ◌+◌, ◌++◌, ◌∷◌, [], IfErr};
 ghost use Rattle.std.specs.Prelude.{IfOk, IfSome, MatchOption, OnOk, OnSome, false, length, ◌^◌, ◌≤◌};
-ghost use Rattle.der_canon.specs.Errors.{AllHaveDer, IsAll, IsErrorOf};
+ghost use Rattle.der_canon.specs.Errors.{IsAll, IsErrorOf};
+ghost use Rattle.der_canon.specs.NoDer.{AllHaveDer};
 ghost use Rattle.der_canon.specs.Sizes.{Ends, HasSize, part_size, start_size, with_length};
 ghost use Rattle.der_canon.specs.Sizing.{AddsElement, AddsPart, AddsPiece, ComesTo, IsFound, cost, most};
 ghost use Rattle.der_walk.specs.Walked.{visited_of};

@@ -13,11 +13,11 @@ returns-then-are_elements-clause-written c =
     let i = c.args.octets.now in
     let out = c.args.out.now in
     let all : AreElements Der 101 i = c.if-are_elements.ensures.0 (search rules) in
-    let size : IsSizeOf i (length i) = record { unchanged = λ _. refl; others = λ k. absurd (k all) } in (
+    let size : IsSizeOf i (length i) = record { have = λ k. absurd (k all); unchanged = λ _. refl; others = λ k. absurd (k all) } in (
       size,
       λ h. let fits : length i ≤ length out = omega arith in
           let front : take (length i) c.copy.new.out ≡ i = ap (take (length i)) c.copy.ensures ∙ take-overlay out i fits in
-          record { elements = subst (λ l. AreElements Der 101 l) (sym front) all; unchanged = λ _. front; same = λ k. absurd (k all) },
+          record { have = λ k. absurd (k all); elements = subst (λ l. AreElements Der 101 l) (sym front) all; unchanged = λ _. front; same = λ k. absurd (k all) },
     )
 
 pub returns-in-Ok-clause-written : goal.returns-in-Ok-clause-written
@@ -26,9 +26,11 @@ returns-in-Ok-clause-written c =
     let out = c.write_others.new.out in
     let n = c.in-Ok.needed in
     let not_der : ¬ AreElements Der 101 i = (λ a. let t : IsTrue false = c.if-are_elements.ensures.1 a in absurd (cc)) in
+    let have = c.in-Ok.ensures.have in
     let k = c.in-Ok.ensures.written in (
-      record { unchanged = λ a. absurd (not_der a); others = λ _. k.0 },
+      record { have = λ _. have; unchanged = λ a. absurd (not_der a); others = λ _. k.0 },
       λ l. record {
+        have = λ _. have;
         elements = der_elements 101 i (take n out) (k.1 l) (omega (arith, length-take-le n out l));
         unchanged = λ a. absurd (not_der a);
         same = λ _. k.1 l;

@@ -1,7 +1,7 @@
 use Rattle.std.proofs.Common.{◌≡◌, ◌≤◌, ◌++◌, length, take, drop, take-take, sym, subst, ◌∙◌, arith}
 use Rattle.std.proofs.lemmas.List.{take-append-le}
 use Rattle.std.proofs.lemmas.Result.{err_from_is_err_and}
-use Rattle.der_canon.specs.Same.{IsDerOf}
+use Rattle.der_canon.specs.Written.{IsDerOf}
 use Rattle.der_canon.proofs.elements.write_within.Goals as goal
 
 pub returns-clause-written : goal.returns-clause-written
