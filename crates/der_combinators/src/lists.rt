@@ -82,7 +82,12 @@ impl<F> ListOfValues<F> {
     fn new(rules: Rules, list: ListType, f: F, alloc: Global) -> ListOfValues<F>
         ensures { result ≡ ((rules, list), f) }
     {
-        ListOfValues { rules, list, f, alloc }
+        ListOfValues {
+            rules,
+            list,
+            f,
+            alloc,
+        }
     }
 
     /// Reads as `NumberedContainer::parse` an element of the type's tag number, of any class. The kept
@@ -179,7 +184,12 @@ impl<F> ListOfObjects<F> {
     fn new(rules: Rules, list: ListType, f: F, alloc: Global) -> ListOfObjects<F>
         ensures { result ≡ ((rules, list), f) }
     {
-        ListOfObjects { rules, list, f, alloc }
+        ListOfObjects {
+            rules,
+            list,
+            f,
+            alloc,
+        }
     }
 
     /// Reads as `ListOfValues::parse`, with its errors and its OutOfMemory. Returns the SEQUENCE or the

@@ -199,7 +199,12 @@ impl<F> ExplicitObject<F> {
     fn new(rules: Rules, tag: Tag, f: F, alloc: Global) -> ExplicitObject<F>
         ensures { result ≡ ((rules, tag.0), f) }
     {
-        ExplicitObject { rules, tag, f, alloc }
+        ExplicitObject {
+            rules,
+            tag,
+            f,
+            alloc,
+        }
     }
 
     /// Reads as `ExplicitContainer::parse`, and calls the kept parser on the content octets alone.
