@@ -1,1 +1,2 @@
+pub mod Negatives
 pub mod PathsShown

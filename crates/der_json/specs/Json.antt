@@ -1,18 +1,17 @@
 -- What is written of an element as JSON.
-use Rattle.std.specs.Prelude.{◌≡◌, ◌⊎◌, ◌==◌, ◌^◌, ◌||◌, ◌<◌, ◌≤◌, ◌+◌, ◌*◌, ℕ, suc, not, nat_lt, Bool, true, false}
-use Rattle.std.specs.Prelude.{if◌then◌else◌, IsTrue, IfSome, MatchBool, MatchOption, ℤ, pos, negsuc}
+use Rattle.std.specs.Prelude.{◌≡◌, ◌⊎◌, ◌==◌, ◌^◌, ◌||◌, ◌<◌, ◌≤◌, ◌+◌, ◌*◌, ℕ, not, Bool, true, false}
+use Rattle.std.specs.Prelude.{IsTrue, MatchBool, MatchOption}
 use Rattle.std.specs.Prelude.{Option, Some, None, is_some, option_map, List, [], ◌∷◌, ◌++◌, codes, drop, length}
 use Rattle.std.specs.Prelude.{string_bytes}
 use Rattle.std.specs.Io.KnownBytes.{Appends}
 use Rattle.serde.specs.Event.{Log}
-use Rattle.serde_json.specs.Data.{Data, boolean, negative, null, number, string, unsigned}
+use Rattle.serde_json.specs.Data.{Data, boolean, null, string}
 use Rattle.serde_json.specs.Sent.{IsTextOf}
 use Rattle.serde_json.specs.View.{view}
 use Rattle.hex.specs.Hex.{encode_lower}
 use Rattle.der_base.specs.declared.header.Class.{Class}
 use Rattle.der_base.specs.declared.header.Class.TheVariants.{Universal, Application, ContextSpecific, Private}
 use Rattle.der_base.specs.declared.time.ASN1DateTime.{ASN1DateTime}
-use Rattle.der_base.specs.Octets.{integer_value}
 use Rattle.der_base.specs.Time.{IsTimeText}
 use Rattle.der_print.specs.Quotes.{unquoted_text}
 use Rattle.der_print.specs.Remarks.{IsRemark}
@@ -22,8 +21,8 @@ use Rattle.der_print.specs.Values.{real_text}
 use Rattle.der_json.specs.declared.members.Members.{Members}
 use Rattle.der_json.specs.declared.object.Object.{Object}
 use Rattle.der_json.specs.declared.object.Source.{Source}
+use Rattle.der_json.specs.Numbers.{json_number}
 use Rattle.der_json.specs.Timestamps.{HasTimestamp, timestamp_text}
-use Rattle.der_values.specs.Decimal.{integer_text}
 use Rattle.der_walk.specs.TypeNames.{type_text}
 use Rattle.der_walk.specs.Visits.{Visited}
 use Rattle.oid_names.specs.OwnNames.{IsNameAmong, Named}
@@ -38,12 +37,6 @@ pub record AddsJson (old new : Option (List ℕ)) : Type 0 where
   pub is_json : IsJson text
   pub adds : Appends old new (text ++ codes "\n")
 
--- a number from -(2^53-1) to 2^53-1, or the decimal digits of another one (RFC 8259 6)
-abbrev pub json_number : ℤ → Data
-json_number (pos n) = if nat_lt n (2 ^ 53) then number (unsigned n) else string (integer_text (pos n))
-json_number (negsuc n) =
-    if nat_lt (suc n) (2 ^ 53) then number (negative (negsuc n)) else string (integer_text (negsuc n))
-
 -- the octet of FALSE (X.690 8.2.2)
 abbrev pub is_false : List ℕ → Bool
 is_false (b ∷ []) = b == 0
@@ -53,7 +46,7 @@ is_false w = false
 pub data IsUniversalJson (t : ℕ) (w : List ℕ) (d : Data) : Type 0 where
   no_value : (t ≡ 0) ⊎ (t ≡ 5) → d ≡ null → IsUniversalJson t w d
   truth : t ≡ 1 → d ≡ boolean (not (is_false w)) → IsUniversalJson t w d
-  json_integer : (t ≡ 2) ⊎ (t ≡ 10) → d ≡ json_number (integer_value w) → IsUniversalJson t w d
+  json_integer : (t ≡ 2) ⊎ (t ≡ 10) → d ≡ json_number w → IsUniversalJson t w d
   identifier : t ≡ 6 → d ≡ string (identifier_text false w) → IsUniversalJson t w d
   relative : t ≡ 13 → d ≡ string (identifier_text true w) → IsUniversalJson t w d
   real : t ≡ 9 → d ≡ string (real_text Whole w) → IsUniversalJson t w d

@@ -1,3 +1,4 @@
 pub mod Json
+pub mod Numbers
 pub mod PathTexts
 pub mod Timestamps

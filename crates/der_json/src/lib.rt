@@ -3,6 +3,7 @@
 
 mod members;
 mod moment;
+mod number;
 mod object;
 mod paths;
 mod value;

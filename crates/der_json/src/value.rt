@@ -4,18 +4,20 @@ ghost use Rattle.hex.specs.Hex.{encode_lower};
 ghost use Rattle.serde_json.specs.Data.{string};
 ghost use Rattle.serde_json.specs.View.{view};
 ghost use Rattle.der_base.specs.Octets.{integer_value};
-ghost use Rattle.der_json.specs.Json.{IsJsonValue, IsUniversalJson, is_false, json_number};
+ghost use Rattle.der_json.specs.Json.{IsJsonValue, IsUniversalJson, is_false};
+ghost use Rattle.der_json.specs.Numbers.{json_number};
 ghost use Rattle.der_print.specs.Quotes.{unquoted_text};
 ghost use Rattle.der_print.specs.Texts.{content_of};
 ghost use Rattle.der_print.specs.Values.{identifier_text, real_text};
 ghost use Rattle.der_walk.specs.Walked.{visited_of};
 
+use crate::number::number_text;
 use der_base::header::{Class, Tag};
 use der_base::integer::read_i64;
 use der_base::rules::Rules;
 use der_base::time::read_time;
 use der_print::{Arcs, Hex, Limit, Moment, Real, Unquoted, is_quoted_type, octets_or_none};
-use der_values::{read_bool, to_decimal};
+use der_values::read_bool;
 use der_walk::Element;
 use serde_json::Value;
 use std::alloc::{AllocError, Global};
@@ -79,25 +81,25 @@ fn string(text: String) -> Result<Value, AllocError>
     Ok(Value::String(text))
 }
 
-/// A number from -(2^53-1) to 2^53-1, or the decimal digits of another one.
+/// A number from -(2^53-1) to 2^53-1, or the text of another one.
 fn integer(alloc: Global, octets: &[u8]) -> Result<Value, AllocError>
-    ensures { IfOk result (λ value. view value ≡ json_number (integer_value octets.now)) }
+    ensures { IfOk result (λ value. view value ≡ json_number octets.now) }
 {
     if let Ok(number) = read_i64(octets) {
         return int64(alloc, number, octets);
     }
-    string(to_decimal(alloc, octets)?)
+    string(number_text(alloc, octets)?)
 }
 
 /// A number of 64 bits.
 fn int64(alloc: Global, number: i64, octets: &[u8]) -> Result<Value, AllocError>
     requires { number ≡ integer_value octets.now }
-    ensures { IfOk result (λ value. view value ≡ json_number number) }
+    ensures { IfOk result (λ value. view value ≡ json_number octets.now) }
 {
     if number >= -MOST && number <= MOST {
         return Ok(Value::from(number));
     }
-    string(to_decimal(alloc, octets)?)
+    string(number_text(alloc, octets)?)
 }
 
 /// The octets of a BIT STRING after that of its unused bits.
