@@ -5,8 +5,9 @@ import subprocess
 import sys
 
 HEADINGS = ("Commands", "Arguments", "Options")
-# A line of a list: the term, and what is said of it
+# A line of a list: the term, and what is said of it. Further lines of that have no term.
 LINE = re.compile(r" {2,}(\S.*?) {2,}(\S.*)")
+FURTHER = re.compile(r" {8,}(\S.*)")
 # The values of an option, as `Read as der, pem or hex, not ..` names them
 VALUES = re.compile(r"^Read as ((?:\w+, )*\w+) or (\w+)\b")
 
@@ -19,6 +20,11 @@ class Option:
     value: str
     values: list
     text: str
+
+    @property
+    def brief(self):
+        """The first line of the text."""
+        return self.text.partition("\n")[0].rstrip(".")
 
 
 @dataclasses.dataclass
@@ -35,12 +41,17 @@ class Help:
 
 
 def rows_of(lines):
-    """The term and the text of each line of a list."""
-    found = [(line, LINE.fullmatch(line)) for line in lines]
-    for line, row in found:
-        if not row:
+    """The term and the text of each entry of a list."""
+    rows = []
+    for line in lines:
+        if row := LINE.fullmatch(line):
+            rows.append(row.groups())
+        elif rows and (more := FURTHER.fullmatch(line)):
+            term, text = rows[-1]
+            rows[-1] = term, f"{text}\n{more[1]}"
+        else:
             sys.exit(f"release: a line of help that isn't a term and its text: {line!r}")
-    return [row.groups() for _, row in found]
+    return rows
 
 
 def option_of(term, text):
@@ -92,6 +103,7 @@ def roff_options(options):
 
 
 def sentence(text):
+    text = text.replace("\n", " ")
     return text if text.endswith(".") else text + "."
 
 
@@ -161,7 +173,7 @@ def zsh_options(options):
         others = f"({' '.join(it.names)})" if len(it.names) > 1 else ""
         follows = f":{it.value}:({' '.join(it.values)})" if it.value else ""
         before = quoted(others) if others else ""
-        lines += [before + name + quoted(f"[{escape_zsh(it.text)}]{follows}") for name in it.names]
+        lines += [before + name + quoted(f"[{escape_zsh(it.brief)}]{follows}") for name in it.names]
     return lines
 
 
@@ -203,7 +215,7 @@ def fish_quoted(text):
 def fish_option(program, condition, it):
     names = [f"-l {name[2:]}" if name.startswith("--") else f"-s {name[1:]}" for name in it.names]
     follows = [f"-x -a {fish_quoted(' '.join(it.values))}"] if it.value else []
-    return " ".join([f"complete -c {program} -n {condition}", *names, *follows, "-d", fish_quoted(it.text)])
+    return " ".join([f"complete -c {program} -n {condition}", *names, *follows, "-d", fish_quoted(it.brief)])
 
 
 def fish_completion(whole, commands):

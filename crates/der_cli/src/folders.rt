@@ -1,79 +1,270 @@
 //! The files in folders.
-use crate::inputs::report_unread;
-use std::io::Write;
+use crate::inputs::{DASH, report_unread};
+use der_actions::name::Name;
+use std::alloc::{AllocError, Global};
+use std::collections::BTreeSet;
+use std::fs::Metadata;
+use std::io::{ErrorKind, Write};
+use std::os::unix::fs::MetadataExt;
 use std::rt::Files;
 use std::{fs, io};
 
-/// Lists files, and in place of a folder the files in it if `is_recursive`. Returns whether all folders were read.
-pub(crate) fn with_folders<R: Files + AllocGlobal + Clone + Drop, X: Write>(
+/// Files that are to be read.
+#[derive(Drop)]
+pub(crate) struct FileList {
+    /// Their names, in order.
+    pub names: Vec<String>,
+    /// Which files these are, if folders are read.
+    known: BTreeSet<FileId>,
+    /// Whether all folders were read to their end.
+    pub is_whole: bool,
+}
+
+/// A file of the system, whatever its name is: its device, and its number there.
+#[derive(Clone, Copy, PartialEq, Eq, PartialOrd, Ord)]
+struct FileId {
+    device: u64,
+    number: u64,
+}
+
+/// What a name in a folder stands for: of a file which one it is, if the system says it.
+#[derive(Clone, Copy)]
+enum Kind {
+    File(Option<FileId>),
+    LinkToFile(Option<FileId>),
+    LinkToFolder,
+    BrokenLink,
+    Folder,
+    /// A pipe, a socket or a device.
+    Other,
+}
+
+/// A file in a folder. In order, the names of files are before those of links.
+#[derive(PartialEq, Eq, PartialOrd, Ord, Drop)]
+struct Found {
+    is_link: bool,
+    name: String,
+    id: Option<FileId>,
+}
+
+/// What a folder has, and the folders inside it.
+#[derive(Drop)]
+struct Tree {
+    files: Vec<Found>,
+    /// The names that aren't looked at yet. The last one is the next.
+    names: Vec<String>,
+    is_whole: bool,
+}
+
+/// Lists files, and in place of a folder the files in it if `is_recursive`. What is skipped or can't be read in a folder
+/// is reported.
+pub(crate) fn list_files<R: Files + AllocGlobal + Clone + Drop, X: Write>(
     rt: &R,
     files: &[&str],
     is_recursive: bool,
-    names: &mut Vec<String>,
     err: &mut X,
-) -> io::Result<bool> {
-    let mut are_read = true;
+) -> io::Result<FileList> {
+    let mut list = FileList::new(rt.alloc());
     for file in files {
-        if is_recursive && is_folder(rt, file) {
-            let is_read = list_folders(rt, file, names, err)?;
-            are_read = are_read && is_read;
+        if is_recursive && *file != DASH {
+            list.add_argument(rt, file, err)?;
         } else {
-            names.push(String::from_str(rt.alloc(), file)?)?;
+            list.names.push(String::from_str(rt.alloc(), file)?)?;
         }
     }
-    Ok(are_read)
+    Ok(list)
 }
 
-/// Whether a name is that of a folder.
-fn is_folder<R: Files>(rt: &R, name: &str) -> bool {
-    match fs::metadata(rt, name) {
-        Ok(metadata) => metadata.is_dir(),
-        Err(_) => false,
+impl FileList {
+    /// No files.
+    fn new(alloc: Global) -> FileList {
+        FileList {
+            names: Vec::new(alloc),
+            known: BTreeSet::new(alloc),
+            is_whole: true,
+        }
     }
-}
 
-/// Lists the files in a folder and in the folders inside it, in the order of their names. Returns whether all folders
-/// were read.
-fn list_folders<R: Files + AllocGlobal + Clone + Drop, X: Write>(
-    rt: &R,
-    folder: &str,
-    names: &mut Vec<String>,
-    err: &mut X,
-) -> io::Result<bool> {
-    let mut are_read = true;
-    let mut files = Vec::new(rt.alloc());
-    let mut folders = Vec::new(rt.alloc());
-    folders.push(String::from_str(rt.alloc(), folder)?)?;
-    for _ in 0..u64::MAX {
-        let Some(folder) = folders.pop() else {
-            break;
+    /// Adds a file, or the files in a folder. A name that can't be read is added, so that reading it says why.
+    fn add_argument<R: Files + AllocGlobal + Clone + Drop, X: Write>(
+        &mut self,
+        rt: &R,
+        name: &str,
+        err: &mut X,
+    ) -> io::Result<()> {
+        let id = match fs::metadata(rt, name) {
+            Ok(metadata) if metadata.is_dir() => return self.add_folder(rt, name, err),
+            Ok(metadata) => id_of(&metadata),
+            Err(_) => None,
         };
-        if let Err(e) = list_folder(rt, folder.as_str(), &mut files, &mut folders) {
-            report_unread(folder.as_str(), &e, err)?;
-            are_read = false;
+        if self.is_new(id)? {
+            self.names.push(String::from_str(rt.alloc(), name)?)?;
+        }
+        Ok(())
+    }
+
+    /// Adds the files in a folder and in the folders inside it, in the order of their names.
+    fn add_folder<R: Files + AllocGlobal + Clone + Drop, X: Write>(
+        &mut self,
+        rt: &R,
+        folder: &str,
+        err: &mut X,
+    ) -> io::Result<()> {
+        let Tree {
+            mut files,
+            is_whole,
+            ..
+        } = tree_of(rt, folder, err)?;
+        files.sort()?;
+        self.is_whole = self.is_whole && is_whole;
+        let mut names = Vec::new(rt.alloc());
+        for Found { name, id, .. } in files {
+            if self.is_new(id)? {
+                names.push(name)?;
+            }
+        }
+        names.sort()?;
+        Ok(self.names.append(&mut names)?)
+    }
+
+    /// Whether a file isn't known yet, which it is then. One of which the system doesn't say which it is counts as new.
+    fn is_new(&mut self, id: Option<FileId>) -> Result<bool, AllocError> {
+        match id {
+            Some(id) => Ok(self.known.insert(id)?),
+            None => Ok(true),
         }
     }
-    files.sort()?;
-    names.append(&mut files)?;
-    Ok(are_read)
 }
 
-/// Lists the files in a folder, and the folders. A symbolic link is neither.
-fn list_folder<R: Files + AllocGlobal + Clone + Drop>(
+/// What a folder has, and the folders inside it.
+fn tree_of<R: Files + AllocGlobal + Clone + Drop, X: Write>(
     rt: &R,
     folder: &str,
-    files: &mut Vec<String>,
-    folders: &mut Vec<String>,
-) -> io::Result<()> {
-    for entry in fs::read_dir(rt, folder)? {
-        let entry = entry?;
-        let name = String::from_str(rt.alloc(), entry.path().as_str())?;
-        let kind = entry.file_type()?;
-        if kind.is_dir() {
-            folders.push(name)?;
-        } else if kind.is_file() {
-            files.push(name)?;
+    err: &mut X,
+) -> io::Result<Tree> {
+    let mut tree = Tree {
+        files: Vec::new(rt.alloc()),
+        names: Vec::new(rt.alloc()),
+        is_whole: true,
+    };
+    tree.enter(rt, folder, err)?;
+    for _ in 0..u64::MAX {
+        match tree.names.pop() {
+            Some(name) => tree.add(rt, name, err)?,
+            None => break,
         }
     }
-    Ok(())
+    Ok(tree)
+}
+
+impl Tree {
+    /// Takes the names in a folder, to look at the first of them next.
+    fn enter<R: Files + AllocGlobal + Clone + Drop, X: Write>(
+        &mut self,
+        rt: &R,
+        folder: &str,
+        err: &mut X,
+    ) -> io::Result<()> {
+        let entries = match fs::read_dir(rt, folder) {
+            Ok(entries) => entries,
+            Err(e) => return self.report(folder, &e, err),
+        };
+        let mut names = Vec::new(rt.alloc());
+        for entry in entries {
+            match entry {
+                Ok(entry) => names.push(String::from_str(rt.alloc(), entry.path().as_str())?)?,
+                Err(e) => self.report(folder, &e, err)?,
+            }
+        }
+        names.sort()?;
+        names.reverse();
+        Ok(self.names.append(&mut names)?)
+    }
+
+    /// Adds the file with this name, takes the names in the folder, or says that it is skipped.
+    fn add<R: Files + AllocGlobal + Clone + Drop, X: Write>(
+        &mut self,
+        rt: &R,
+        name: String,
+        err: &mut X,
+    ) -> io::Result<()> {
+        match kind_of(rt, &name) {
+            Ok(Kind::File(id)) => self.add_file(name, id, false),
+            Ok(Kind::LinkToFile(id)) => self.add_file(name, id, true),
+            Ok(Kind::Folder) => self.enter(rt, &name, err),
+            Ok(Kind::LinkToFolder) => skip(&name, "it is a link to a folder", err),
+            Ok(Kind::BrokenLink) => skip(&name, "it is a broken link", err),
+            Ok(Kind::Other) => skip(&name, "it is a pipe, a socket or a device", err),
+            Err(e) => self.report(&name, &e, err),
+        }
+    }
+
+    /// Adds a file.
+    fn add_file(&mut self, name: String, id: Option<FileId>, is_link: bool) -> io::Result<()> {
+        Ok(self.files.push(Found { is_link, name, id })?)
+    }
+
+    /// Reports what can't be read.
+    fn report<X: Write>(&mut self, name: &str, e: &io::Error, err: &mut X) -> io::Result<()> {
+        self.is_whole = false;
+        if e.kind() == ErrorKind::InvalidFilename && e.raw_os_error().is_none() {
+            return writeln!(err, "der: {}: a name in it isn't UTF-8", Name(name));
+        }
+        report_unread(name, e, err)
+    }
+}
+
+/// Says that a name in a folder is skipped.
+fn skip<X: Write>(name: &str, why: &str, err: &mut X) -> io::Result<()> {
+    writeln!(err, "der: {}: skipped, {why}", Name(name))
+}
+
+/// What a name in a folder stands for.
+fn kind_of<R: Files>(rt: &R, name: &str) -> io::Result<Kind> {
+    let metadata = fs::symlink_metadata(rt, name)?;
+    if !metadata.is_symlink() {
+        return Ok(own_kind(&metadata));
+    }
+    match fs::metadata(rt, name) {
+        Ok(target) => Ok(linked_kind(&target)),
+        Err(e) if is_of_broken_link(e.kind()) => Ok(Kind::BrokenLink),
+        Err(e) => Err(e),
+    }
+}
+
+/// What has this metadata.
+fn own_kind(metadata: &Metadata) -> Kind {
+    if metadata.is_dir() {
+        Kind::Folder
+    } else if metadata.is_file() {
+        Kind::File(id_of(metadata))
+    } else {
+        Kind::Other
+    }
+}
+
+/// What a link leads to, by the metadata of that.
+fn linked_kind(target: &Metadata) -> Kind {
+    match own_kind(target) {
+        Kind::Folder => Kind::LinkToFolder,
+        Kind::File(id) => Kind::LinkToFile(id),
+        kind => kind,
+    }
+}
+
+/// Whether a link that gives this error leads to nothing, or to itself.
+fn is_of_broken_link(kind: ErrorKind) -> bool {
+    matches!(
+        kind,
+        ErrorKind::NotFound | ErrorKind::NotADirectory | ErrorKind::FilesystemLoop
+    )
+}
+
+/// Which file has this metadata. None if its number is 0, as where a file system doesn't have numbers.
+fn id_of(metadata: &Metadata) -> Option<FileId> {
+    let id = FileId {
+        device: metadata.dev(),
+        number: metadata.ino(),
+    };
+    (id.number != 0).then_some(id)
 }

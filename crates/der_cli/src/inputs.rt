@@ -4,7 +4,7 @@ ghost use Rattle.der_cli.specs.Statuses.{IsStatusOf};
 
 use crate::arguments::{form_named, limit_of};
 use crate::decode::octets_in;
-use crate::folders::with_folders;
+use crate::folders::list_files;
 use crate::run::run;
 use crate::status::{TROUBLE, status_of_comparison};
 use crate::summary::Summary;
@@ -27,9 +27,9 @@ use std::{fs, io};
 pub(crate) const STANDARD_INPUT: &str = "standard input";
 
 /// The standard input among files.
-const DASH: &str = "-";
+pub(crate) const DASH: &str = "-";
 
-/// Runs over each file, and over those in folders if `is_recursive`. Returns whether all were read.
+/// Runs over each file, and over those in folders if `is_recursive`. Returns whether there was one, and all were read.
 pub(crate) fn run_files<R: Files + AllocGlobal + Clone + Drop, I: Read, W: Write, X: Write>(
     rt: &R,
     options: &Options<'_>,
@@ -39,29 +39,31 @@ pub(crate) fn run_files<R: Files + AllocGlobal + Clone + Drop, I: Read, W: Write
     out: &mut W,
     err: &mut X,
 ) -> io::Result<bool> {
-    let mut names = Vec::new(rt.alloc());
-    let are_listed = with_folders(rt, files, is_recursive, &mut names, err)?;
+    let list = list_files(rt, files, is_recursive, err)?;
     let options = Options {
-        has_several_files: names.len() > 1 || is_recursive,
+        has_several_files: list.names.len() > 1 || is_recursive,
         ..*options
     };
-    let summary = run_each(rt, &options, &names, input, out, err)?;
-    if options.action == Action::Check && options.has_several_files && !options.is_quiet {
+    let mut summary = Summary::new(list.is_whole);
+    run_each(rt, &options, &list.names, &mut summary, input, out, err)?;
+    if summary.is_empty() {
+        writeln!(err, "der: no file was read")?;
+    } else if options.action == Action::Check && options.has_several_files && !options.is_quiet {
         summary.write(&options, out)?;
     }
-    Ok(are_listed && summary.is_good())
+    Ok(summary.is_good())
 }
 
-/// Runs over each file.
+/// Runs over each file, and counts it.
 fn run_each<R: Files + AllocGlobal, I: Read, W: Write, X: Write>(
     rt: &R,
     options: &Options<'_>,
     names: &[String],
+    summary: &mut Summary,
     input: &mut I,
     out: &mut W,
     err: &mut X,
-) -> io::Result<Summary> {
-    let mut summary = Summary::new();
+) -> io::Result<()> {
     for name in names {
         let name = name.as_str();
         match read_file(rt, name, input) {
@@ -76,7 +78,7 @@ fn run_each<R: Files + AllocGlobal, I: Read, W: Write, X: Write>(
             }
         }
     }
-    Ok(summary)
+    Ok(())
 }
 
 /// The octets of a file, or of the standard input.

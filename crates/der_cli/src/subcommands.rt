@@ -218,10 +218,18 @@ const NO_INSIDE: Argument = Argument {
     ..FLAG
 };
 
+/// Its first line is also what completions say of the option.
+const RECURSIVE_HELP: &str = "\
+Read all files in folders, and those that links name.
+A file with several names is read once. Links to folders,
+broken links, pipes, sockets and devices are skipped, and
+named on standard error. The status is 1 if a folder can't
+be read, or if there is no file.";
+
 const RECURSIVE: Argument = Argument {
     name: "recursive",
     letter: Some('r'),
-    help: "Read all files in folders",
+    help: RECURSIVE_HELP,
     ..FLAG
 };
 

@@ -24,21 +24,24 @@ impl fmt::Display for Asked<'_> {
     }
 }
 
-/// How many files are read, and how many of them are refused or can't be read.
+/// How many files there are, and how many of them are refused or can't be read.
 #[derive(Clone, Copy)]
 pub(crate) struct Summary {
     files: usize,
     refused: usize,
     unread: usize,
+    /// Whether all folders were read to their end.
+    is_whole: bool,
 }
 
 impl Summary {
     /// Before the first file.
-    pub(crate) fn new() -> Summary {
+    pub(crate) fn new(is_whole: bool) -> Summary {
         Summary {
             files: 0,
             refused: 0,
             unread: 0,
+            is_whole,
         }
     }
 
@@ -56,9 +59,14 @@ impl Summary {
         self.unread = self.unread.saturating_add(1);
     }
 
-    /// Whether all files were read.
+    /// Whether there is no file.
+    pub(crate) fn is_empty(&self) -> bool {
+        self.files == 0
+    }
+
+    /// Whether there is a file, and all were read.
     pub(crate) fn is_good(&self) -> bool {
-        self.refused == 0 && self.unread == 0
+        self.files > 0 && self.refused == 0 && self.unread == 0 && self.is_whole
     }
 
     /// Writes it, as `12 files, 2 aren't DER`.
@@ -67,15 +75,22 @@ impl Summary {
             rules: options.rules,
             naming: options.naming,
         };
-        write!(out, "{} files", self.files)?;
+        match self.files {
+            1 => write!(out, "1 file")?,
+            files => write!(out, "{files} files")?,
+        }
         match self.refused {
-            0 if self.unread == 0 => write!(out, ", all are {asked}")?,
+            0 if self.is_good() && self.files == 1 => write!(out, ", it is {asked}")?,
+            0 if self.is_good() => write!(out, ", all are {asked}")?,
             0 => {}
             1 => write!(out, ", 1 isn't {asked}")?,
             refused => write!(out, ", {refused} aren't {asked}")?,
         }
         if self.unread > 0 {
             write!(out, ", {} can't be read", self.unread)?;
+        }
+        if !self.is_whole {
+            write!(out, ", some folders can't be read")?;
         }
         writeln!(out, "")
     }
