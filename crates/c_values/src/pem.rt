@@ -1,5 +1,5 @@
 //! Blocks of PEM (RFC 7468), decoded in buffers of the caller's.
-ghost use Rattle.std.specs.Prelude.{Option, Result};
+ghost use Rattle.std.specs.Prelude.{Option, Result, length};
 ghost use Rattle.c_values.specs.Pem.{TakesBlock, WritesBlock};
 ghost use Rattle.der_input.specs.declared.error.FormError.{FormError};
 ghost use Rattle.der_input.specs.declared.pem.Block.{Block};
@@ -26,7 +26,7 @@ pub fn take_block<'a>(
     octets: &mut [u8],
     block: &mut DmPem<'a>,
 ) -> u32
-    ensures { TakesBlock found.entry text.old text.new block.old block.new octets.new result }
+    ensures { TakesBlock found.entry text.old text.new block.old block.new (length characters.old) octets.new result }
 {
     match found {
         Ok(Some((found, rest))) => {
@@ -45,7 +45,7 @@ fn write_block<'a>(
     octets: &mut [u8],
     block: &mut DmPem<'a>,
 ) -> u32
-    ensures { WritesBlock found.entry octets.new block.new result }
+    ensures { WritesBlock found.entry (length characters.old) octets.new block.new result }
 {
     block.label = found.label;
     match found.decode_into(characters, octets) {

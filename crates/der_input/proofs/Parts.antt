@@ -1,6 +1,7 @@
 -- The parts of strings and of base64, one after another.
 use Rattle.std.proofs.Common.{◌≡◌, ℕ, zero, suc, ◌+◌, ◌-◌, ◌<◌, ◌≤◌, ◌||◌, Bool, cond, false, true, List, [], ◌∷◌, ◌++◌, length, drop, Option, Some, None, refl, ap, append-nil, ◌∙◌, arith}
 use Rattle.std.specs.Prelude.{is_some, slice_index}
+use Rattle.std.proofs.lemmas.List.{length-append}
 use Rattle.der_input.specs.Escapes.{begins_escape, digits_from, has_escape, part_digits, part_size}
 use Rattle.der_input.specs.Plain.{begins_break, character_of, characters_from}
 
@@ -47,3 +48,13 @@ characters_break (c ∷ d ∷ w) long h = ap (λ b. cond b (characters_from 0 w)
 pub characters_more : (w : List ℕ) → 0 < length w → begins_break w ≡ false → characters_from 0 w ≡ character_of (slice_index w 0) ++ characters_from 0 (drop 1 w)
 characters_more [] some h = absurd (omega arith)
 characters_more (c ∷ w) some h = ap (λ b. cond b (characters_from 1 w) (character_of c ++ characters_from 0 w)) h
+
+-- the first part alone is no longer
+pub part_within : (quote : Option ℕ) (w : List ℕ) → 0 < length w → length (part_digits quote w) ≤ length (digits_from quote 0 w)
+part_within quote [] some = absurd (omega arith)
+part_within quote (c ∷ w) some =
+    omega (arith, length-append (part_digits quote (c ∷ w)) (digits_from quote (part_size quote (c ∷ w) - 1) w))
+
+pub character_within : (w : List ℕ) → 0 < length w → begins_break w ≡ false → length (character_of (slice_index w 0)) ≤ length (characters_from 0 w)
+character_within w some h =
+    omega (arith, ap length (characters_more w some h), length-append (character_of (slice_index w 0)) (characters_from 0 (drop 1 w)))

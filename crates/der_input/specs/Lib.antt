@@ -4,3 +4,4 @@ pub mod Forms
 pub mod Marks
 pub mod Numbers
 pub mod Plain
+pub mod Slices

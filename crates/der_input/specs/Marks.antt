@@ -1,6 +1,6 @@
 -- Octets among others, and what a text begins with.
 use Rattle.std.specs.Prelude.{◌≡◌, ℕ, ◌<◌, ◌+◌, ◌/◌, ◌%◌, ◌==◌, ◌||◌, nat_lt, Bool, if◌then◌else◌, List, [], ◌∷◌, ◌++◌}
-use Rattle.std.specs.Prelude.{Option, IfSome, ◌≤◌, length, take, drop, find, is_some, codes}
+use Rattle.std.specs.Prelude.{Option, MatchOption, ◌≤◌, length, take, drop, find, is_some, codes}
 use Rattle.std.specs.Char.{is_ascii_whitespace}
 use Rattle.std.specs.List.{list_any, position_or_len, range_with_len, starts_with, ends_with}
 use Rattle.bstr.specs.Find.{occurs_at}
@@ -37,6 +37,7 @@ digit_of n = if nat_lt n 10 then 0x30 + n else 0x57 + n
 abbrev pub pair_of : ℕ → List ℕ
 pair_of octet = digit_of (octet / 16) ∷ digit_of (octet % 16) ∷ []
 
--- octets are written from an offset on, up to the result, if there is room for them
+-- octets are written from an offset on, up to the result, or None if there is no room for them
 abbrev pub Puts : List ℕ → ℕ → List ℕ → List ℕ → Option ℕ → Type 0
-Puts old at octets new result = IfSome result (λ end. (end ≤ length new) × (take end new ≡ take at old ++ octets))
+Puts old at octets new result = MatchOption result (length old < at + length octets)
+    (λ end. (end ≤ length new) × (take end new ≡ take at old ++ octets))

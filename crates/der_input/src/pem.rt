@@ -1,5 +1,5 @@
 //! Blocks of PEM (RFC 7468), with text around them.
-ghost use Rattle.std.specs.Prelude.{◌≡◌, ◌↔◌, ◌+◌, ◌≤◌, ◌++◌, ◌||◌, length, take, drop, codes};
+ghost use Rattle.std.specs.Prelude.{◌≡◌, ◌↔◌, ◌+◌, ◌≤◌, ◌++◌, ◌||◌, length, drop, codes};
 ghost use Rattle.std.specs.Prelude.{IfErr, IfOk, IfSome, IsTrue, MatchOption};
 ghost use Rattle.bstr.specs.Find.{FindsNeedle};
 ghost use Rattle.bstr.specs.Text.{Contains};
@@ -8,6 +8,7 @@ ghost use Rattle.der_input.specs.Blocks.{RefusesLines, SpellsLines, SplitsRound}
 ghost use Rattle.der_input.specs.Blocks.{begins_here, begins_line, begins_string, ends_line, first_begin, is_indent};
 ghost use Rattle.der_input.specs.Blocks.{label_of, lines_of};
 ghost use Rattle.der_input.specs.Forms.{HasNoBlock};
+ghost use Rattle.der_input.specs.Slices.{DecodesLines};
 
 use crate::error::FormError;
 use crate::marks::{is_mark, offset_of};
@@ -50,8 +51,7 @@ impl Block<'_> {
     /// Writes the octets that its lines encode, as `decode` returns them, and returns how many there are.
     /// `room` and OutOfMemory are those of `decode_base64_into`.
     pub fn decode_into(&self, room: &mut [u8], octets: &mut [u8]) -> Result<usize, FormError>
-        ensures ok { IfOk result (λ n. SpellsLines (lines_of self.now) (take n octets.new)) }
-        ensures err { IfErr result (RefusesLines (lines_of self.now)) }
+        ensures { DecodesLines (lines_of self.now) (length room.old) octets.new result }
     {
         if self.is_encrypted() {
             return Err(FormError::Encrypted);

@@ -1,6 +1,6 @@
 //! Calls that take blocks of PEM (RFC 7468), and decode them in buffers of the caller's.
 ghost use Rattle.std.specs.Borrow.{Bor};
-ghost use Rattle.std.specs.Prelude.{List, Option, Result, ℕ};
+ghost use Rattle.std.specs.Prelude.{List, Option, Result, length, ℕ};
 ghost use Rattle.c_formats.specs.Items.{Taken};
 ghost use Rattle.c_values.specs.Cursors.{IsSame};
 ghost use Rattle.c_values.specs.Pem.{AnswersBlock, TakesBlock};
@@ -22,7 +22,7 @@ pub extern "C" fn dm_next_pem<'a>(
     block: &mut DmPem<'a>,
 ) -> u32
     ensures { (found : Result (Option (Block × Bor (List ℕ))) FormError) × AnswersBlock text.old.octets.now found
-        × TakesBlock found text.old text.new block.old block.new octets.new result }
+        × TakesBlock found text.old text.new block.old block.new (length characters.old) octets.new result }
 {
     take_block(next_block(text.octets), text, characters, octets, block)
 }

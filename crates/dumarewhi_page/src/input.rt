@@ -1,5 +1,6 @@
 //! Calls that read the form of an input, and its octets.
-ghost use Rattle.page_texts.specs.Inputs.{AnswersBlock, AnswersForm, DecodesBase64, DecodesDigits, FindsBlock, Found};
+ghost use Rattle.std.specs.Prelude.{length};
+ghost use Rattle.page_texts.specs.Inputs.{AnswersBase64, AnswersBlock, AnswersDigits, AnswersForm, FindsBlock, Found};
 
 use der_input::{FormError, decode_base64_into, decode_hex_into, form_of, next_block};
 use page_texts::input::{PageBlock, answer, number_of, put_block};
@@ -32,7 +33,7 @@ pub extern "C" fn page_digits(
     octets: &mut [u8],
     size: &mut usize,
 ) -> u32
-    ensures { DecodesDigits input.now octets.new size.new result }
+    ensures { AnswersDigits input.now (length room.old) octets.new size.new result }
 {
     answer(decode_hex_into(input, room, octets), size)
 }
@@ -45,7 +46,7 @@ pub extern "C" fn page_base64(
     octets: &mut [u8],
     size: &mut usize,
 ) -> u32
-    ensures { DecodesBase64 input.now octets.new size.new result }
+    ensures { AnswersBase64 input.now (length room.old) octets.new size.new result }
 {
     answer(decode_base64_into(input, room, octets), size)
 }
@@ -59,7 +60,8 @@ pub extern "C" fn page_block<'a>(
     octets: &mut [u8],
     block: &mut PageBlock<'a>,
 ) -> u32
-    ensures { (found : Found) × FindsBlock text.now found × AnswersBlock found octets.new block.new result }
+    ensures { (found : Found) × FindsBlock text.now found
+        × AnswersBlock found (length room.old) octets.new block.new result }
 {
     put_block(next_block(text), text, room, octets, block)
 }

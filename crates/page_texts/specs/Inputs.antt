@@ -1,18 +1,14 @@
 -- The form of an input and its octets, as the page sees them.
 use Rattle.std.specs.Borrow.{Bor}
-use Rattle.std.specs.Prelude.{◌≡◌, ℕ, List, take, Option, Some, None, Result, Ok, Err, IfErr, IfOk, MatchOption}
-use Rattle.std.specs.Prelude.{◌⊎◌, IsErr}
-use Rattle.base64.specs.Engines.{standard_pad_indifferent}
-use Rattle.base64.specs.GeneralPurpose.{decode_of as base64_decode_of}
-use Rattle.hex.specs.Hex.{decode_of as hex_decode_of}
+use Rattle.std.specs.Prelude.{◌≡◌, ℕ, List, Option, Some, None, Result, Ok, Err, IfErr, IfOk, MatchOption}
 use Rattle.der_input.specs.declared.error.FormError.{FormError}
 use Rattle.der_input.specs.declared.error.FormError.TheVariants as error
 use Rattle.der_input.specs.declared.form.Form.{Form}
 use Rattle.der_input.specs.declared.form.Form.TheVariants as form
 use Rattle.der_input.specs.declared.pem.Block.{Block}
-use Rattle.der_input.specs.Blocks.{BeginsWithBlock, BreaksBlock, RefusesLines, SpellsLines, label_of, lines_of}
+use Rattle.der_input.specs.Blocks.{BeginsWithBlock, BreaksBlock, label_of, lines_of}
 use Rattle.der_input.specs.Forms.{FindsForm, FindsNoForm, HasNoBlock}
-use Rattle.der_input.specs.Plain.{characters_of, digits_of}
+use Rattle.der_input.specs.Slices.{DecodesBase64, DecodesDigits, DecodesLines}
 use Rattle.page_texts.specs.declared.input.PageBlock.{PageBlock}
 
 -- forms and errors by numbers
@@ -46,19 +42,12 @@ abbrev pub Answers : Result ℕ FormError → ℕ → ℕ → Type 0
 Answers (Ok size) after n = (after ≡ size) × (n ≡ 0)
 Answers (Err e) after n = (after ≡ 0) × (n ≡ error_number e)
 
--- a buffer begins with the octets of digits or of base64
-abbrev pub DecodesDigits : List ℕ → List ℕ → ℕ → ℕ → Type 0
-DecodesDigits i octets after n = (found : Result ℕ FormError)
-    × IfOk found (λ size. hex_decode_of (digits_of i) ≡ Ok (take size octets))
-    × IfErr found (λ e. (e ≡ error.OutOfMemory) ⊎ ((e ≡ error.Hex) × IsErr (hex_decode_of (digits_of i))))
-    × Answers found after n
+-- A buffer begins with the octets of digits or of base64. Another one has n octets.
+abbrev pub AnswersDigits : List ℕ → ℕ → List ℕ → ℕ → ℕ → Type 0
+AnswersDigits i n octets after k = (found : Result ℕ FormError) × DecodesDigits i n octets found × Answers found after k
 
-abbrev pub DecodesBase64 : List ℕ → List ℕ → ℕ → ℕ → Type 0
-DecodesBase64 i octets after n = (found : Result ℕ FormError)
-    × IfOk found (λ size. base64_decode_of standard_pad_indifferent (characters_of i) ≡ Ok (take size octets))
-    × IfErr found (λ e. (e ≡ error.OutOfMemory)
-    ⊎ ((e ≡ error.Base64) × IsErr (base64_decode_of standard_pad_indifferent (characters_of i))))
-    × Answers found after n
+abbrev pub AnswersBase64 : List ℕ → ℕ → List ℕ → ℕ → ℕ → Type 0
+AnswersBase64 i n octets after k = (found : Result ℕ FormError) × DecodesBase64 i n octets found × Answers found after k
 
 -- the first block of a text (RFC 7468 2, 3), or none, or why the one that begins is none
 abbrev pub Found : Type 0
@@ -69,17 +58,12 @@ FindsBlock text found = IfOk found (λ x. MatchOption x (HasNoBlock text)
     (λ b. BeginsWithBlock text (label_of b.0) (lines_of b.0) b.1.now))
     × IfErr found (BreaksBlock text)
 
--- a buffer begins with the octets that lines encode, or they are refused
-abbrev pub DecodesLines : List ℕ → List ℕ → Result ℕ FormError → Type 0
-DecodesLines lines octets found = IfOk found (λ size. SpellsLines lines (take size octets))
-    × IfErr found (RefusesLines lines)
-
 -- a block's label, what follows it, and its octets; or the error's number
-abbrev pub WritesBlock : Block → List ℕ → PageBlock → ℕ → Type 0
-WritesBlock b w p n = (found : Result ℕ FormError) × DecodesLines (lines_of b) w found × Answers found p.size n
+abbrev pub WritesBlock : Block → ℕ → List ℕ → PageBlock → ℕ → Type 0
+WritesBlock b n w p k = (found : Result ℕ FormError) × DecodesLines (lines_of b) n w found × Answers found p.size k
 
-abbrev pub AnswersBlock : Found → List ℕ → PageBlock → ℕ → Type 0
-AnswersBlock (Ok (Some b)) octets p n =
-    (p.label.now ≡ label_of b.0) × (p.rest.now ≡ b.1.now) × WritesBlock b.0 octets p n
-AnswersBlock (Ok None) octets p n = n ≡ error_number error.NoBlock
-AnswersBlock (Err e) octets p n = n ≡ error_number e
+abbrev pub AnswersBlock : Found → ℕ → List ℕ → PageBlock → ℕ → Type 0
+AnswersBlock (Ok (Some b)) n octets p k =
+    (p.label.now ≡ label_of b.0) × (p.rest.now ≡ b.1.now) × WritesBlock b.0 n octets p k
+AnswersBlock (Ok None) n octets p k = k ≡ error_number error.NoBlock
+AnswersBlock (Err e) n octets p k = k ≡ error_number e

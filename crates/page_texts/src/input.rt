@@ -1,5 +1,5 @@
 //! The form of an input, and its octets.
-ghost use Rattle.std.specs.Prelude.{◌≡◌};
+ghost use Rattle.std.specs.Prelude.{◌≡◌, length};
 ghost use Rattle.der_input.specs.Blocks.{label_of};
 ghost use Rattle.page_texts.specs.Inputs.{Answers, AnswersBlock, NumbersForm, WritesBlock, error_number, form_number};
 
@@ -35,7 +35,7 @@ pub fn put_block<'a>(
     octets: &mut [u8],
     block: &mut PageBlock<'a>,
 ) -> u32
-    ensures { AnswersBlock found.entry octets.new block.new result }
+    ensures { AnswersBlock found.entry (length room.old) octets.new block.new result }
 {
     match found {
         Ok(Some((found, rest))) => {
@@ -59,7 +59,7 @@ fn write_block<'a>(
 ) -> u32
     ensures label { block.new.label.now ≡ label_of found.entry }
     ensures rest { block.new.rest ≡ block.old.rest }
-    ensures octets { WritesBlock found.entry octets.new block.new result }
+    ensures octets { WritesBlock found.entry (length room.old) octets.new block.new result }
 {
     block.label = found.label;
     answer(found.decode_into(room, octets), &mut block.size)

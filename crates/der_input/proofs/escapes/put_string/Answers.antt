@@ -1,7 +1,8 @@
-use Rattle.std.proofs.Common.{◌++◌, ◌∙◌, ap, append_assoc, arith, length, rules, sym, take, ◌≡◌, ◌<◌}
+use Rattle.std.proofs.Common.{◌++◌, ◌∙◌, ap, append_assoc, arith, length, rules, sym, take, ◌<◌}
 use Rattle.std.proofs.lemmas.List.{length-drop}
 use Rattle.der_input.specs.Escapes.{digits_from, part_digits}
-use Rattle.der_input.proofs.Parts.{digits_last, digits_more}
+use Rattle.der_input.proofs.Parts.{digits_last, digits_more, part_within}
+use Rattle.der_input.proofs.Rooms.{not_all}
 use Rattle.der_input.proofs.escapes.put_string.Goals as goal
 
 pub returns-then-size-rest : goal.returns-then-size-rest
@@ -34,3 +35,9 @@ parts-preserved c =
 pub parts-smaller : goal.parts-smaller
 parts-smaller c =
     omega (arith, ap length c.behind-others.ensures, length-drop c.part_size-size.result c.parts.rest.now, c.part_size-size.ensures.some, c.if-size-rest.false)
+
+pub returns-in_err-end : goal.returns-in_err-end
+returns-in_err-end c =
+    let w = c.parts.rest.now in
+    let some : 0 < length w = search rules in
+    rw c.from_residual.ensures (omega (arith, not_all c.parts.room (digits_from c.args.quote 0 w) _ c.parts.end _ c.parts.invariant.within c.parts.invariant.written (part_within c.args.quote w some) c.in_err-end.ensures))
