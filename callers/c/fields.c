@@ -120,9 +120,55 @@ static void test_rules(void) {
     expect(dm_next_sequence(&whole, &fields, &f) == DM_INCOMPLETE && dm_end(&whole, &f) == DM_OK, "no octets");
 }
 
+/* The number of unused bits (8.6.2.2, 8.6.2.3), by either rules: its fault, or those of the value. */
+static void test_bits(void) {
+    static const struct {
+        uint8_t octets[4];
+        size_t length;
+        uint32_t rules, error, unused;
+    } rows[] = {
+        {{0x03, 0x01, 0x00}, 3, DM_BER, 0, 0},
+        {{0x03, 0x02, 0x07, 0xff}, 4, DM_BER, 0, 7},
+        {{0x03, 0x02, 0x07, 0x80}, 4, DM_DER, 0, 7},
+        {{0x03, 0x01, 0x01}, 3, DM_BER, DM_ERROR_UNUSED_BITS_NOT_ZERO, 0},
+        {{0x03, 0x01, 0x01}, 3, DM_DER, DM_ERROR_UNUSED_BITS_NOT_ZERO, 0},
+        {{0x03, 0x01, 0x07}, 3, DM_BER, DM_ERROR_UNUSED_BITS_NOT_ZERO, 0},
+        {{0x03, 0x01, 0x08}, 3, DM_BER, DM_ERROR_INVALID_VALUE, 0},
+        {{0x03, 0x02, 0x08, 0x00}, 4, DM_BER, DM_ERROR_INVALID_VALUE, 0},
+        {{0x03, 0x02, 0x08, 0x00}, 4, DM_DER, DM_ERROR_INVALID_VALUE, 0},
+        {{0x03, 0x02, 0xff, 0x00}, 4, DM_BER, DM_ERROR_INVALID_VALUE, 0},
+        {{0x83, 0x02, 0xff, 0x00}, 4, DM_BER, DM_ERROR_INVALID_VALUE, 0}};
+    for (size_t i = 0; i < sizeof rows / sizeof *rows; i++) {
+        dm_cursor cursor = dm_cursor_over(rows[i].octets, rows[i].length, rows[i].rules);
+        dm_bits bits = {{NULL, 0}, 99, 99};
+        dm_fault f;
+        if (rows[i].octets[0] == 0x83) dm_expect_implicit(&cursor, DM_CONTEXT_SPECIFIC, 3);
+        uint32_t implicit = cursor.implicit, status = dm_next_bits(&cursor, &bits, &f);
+        if (rows[i].error == 0) {
+            expect(status == DM_OK && bits.unused == rows[i].unused && bits.is_present == 1
+                       && is_at(bits.octets, rows[i].octets, 3, rows[i].length - 3)
+                       && is_left(&cursor, rows[i].length, 0),
+                   "a number of unused bits");
+        } else {
+            expect(status == DM_ERROR && has_fault(&f, rows[i].error, 0) && f.is_in_list == 0 && bits.unused == 99
+                       && bits.is_present == 99 && is_left(&cursor, 0, rows[i].length) && cursor.implicit == implicit,
+                   "unused bits that there can't be");
+        }
+    }
+    static const uint8_t inside[] = {0x30, 0x80, 0x05, 0x00, 0x03, 0x01, 0x01, 0x00, 0x00};
+    dm_cursor whole = dm_cursor_over(inside, sizeof inside, DM_BER), fields;
+    dm_bits bits;
+    dm_fault f;
+    expect(dm_next_sequence(&whole, &fields, &f) == DM_OK && dm_next_null(&fields, &f) == DM_OK
+               && dm_next_bits(&fields, &bits, &f) == DM_ERROR && has_fault(&f, DM_ERROR_UNUSED_BITS_NOT_ZERO, 4)
+               && f.is_in_list == 1 && f.list_end == 7,
+           "those in a list");
+}
+
 int main(void) {
     test_types();
     test_rules();
+    test_bits();
     expect(sizeof(dm_cursor) == 40 && sizeof(dm_any) == 24, "a cursor has 40 octets, an element 24");
     printf("fields: %d passed, %d failed\n", passed, failed);
     return failed != 0;

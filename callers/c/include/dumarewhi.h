@@ -85,7 +85,10 @@ typedef struct dm_outcome {
  * has any. Rules that need the ASN.1 type aren't checked, as the order of a SET, nor that the parts of a constructed
  * string are of its type (8.6.4, 8.7.3). `room` is the buffer's capacity: the first elements that fit are written, and
  * the call reads on. With 0 it counts. With another status than DM_OK the buffer's contents are unspecified. Returns
- * the status. */
+ * the status.
+ *
+ * An element that is too deep is DM_ERROR_MAX_DEPTH, after any error of its header or length. An error of its tag or its
+ * content octets comes before that if max_depth is below DM_MAX_DEPTH, and after it otherwise. */
 uint32_t dm_parse_der(const uint8_t *input, size_t length, size_t max_depth, dm_element *elements, size_t room,
                       dm_outcome *outcome);
 uint32_t dm_parse_ber(const uint8_t *input, size_t length, size_t max_depth, dm_element *elements, size_t room,
@@ -411,8 +414,9 @@ dm_mark dm_open(dm_writer *writer, uint8_t tag_class, uint8_t constructed, uint3
 void dm_close(dm_writer *writer, dm_mark mark);
 void dm_close_set_of(dm_writer *writer, dm_mark mark);
 
-/* Puts the next element, which has to be primitive, under an implicit tag (8.14.3). A call that puts nothing leaves it
- * for the next. */
+/* Puts the next element, which has to be primitive, under an implicit tag (8.14.3). A call that returns an error leaves
+ * the tag for the next element. Every other call with the writer but dm_finish uses the tag or drops it: those that open
+ * or close an element and dm_put_elements drop it. */
 void dm_implicit(dm_writer *writer, uint8_t tag_class, uint32_t number);
 
 /* Each puts one element. A BOOLEAN is true unless the value is 0. dm_put_enumerated_i64 puts an ENUMERATED that may be
@@ -645,9 +649,9 @@ typedef struct dm_attribute {
 uint32_t dm_next_relative_name(dm_octets *names, dm_octets *attributes);
 uint32_t dm_next_attribute(dm_octets *attributes, dm_attribute *attribute);
 
-/* Writes a name, which a certificate has, by RFC 4514, such as CN=example.org,O=Example\, Inc.: all of it printable
- * ASCII or UTF-8. Writes the first `room` octets of the text, with no 0 after it, and returns the length of the whole
- * text. The texts are tested, not proved. */
+/* Writes a name, which a certificate has, by RFC 4514, such as CN=example.org,O=Example\, Inc.: printable ASCII alone.
+ * Other characters are their octets in UTF-8, each as \ and two digits, such as \C3\A9. Writes the first `room` octets
+ * of the text, with no 0 after it, and returns the length of the whole text. The texts are tested, not proved. */
 size_t dm_name_text(const uint8_t *name, size_t length, uint8_t *text, size_t room);
 
 /* The next extension of a list (4.1.2.9). */
@@ -1142,7 +1146,9 @@ uint32_t dm_is_next(const dm_cursor *cursor, uint8_t tag_class, uint32_t number)
 /* Each reads the next element as one of this type, and by the cursor's rules. The fault is written in any case, with
  * DM_FIELD_NONE. Returns its status. The errors come in this order: those of the header, and by BER of the framing of
  * an indefinite length; DM_ERROR_UNEXPECTED_CLASS, DM_ERROR_UNEXPECTED_TAG, DM_ERROR_PRIMITIVE_EXPECTED or
- * DM_ERROR_CONSTRUCTED_EXPECTED; those of the content octets. A string in parts is DM_ERROR_PRIMITIVE_EXPECTED. */
+ * DM_ERROR_CONSTRUCTED_EXPECTED; those of the content octets. A string in parts is DM_ERROR_PRIMITIVE_EXPECTED. By
+ * either rules more than seven unused bits are DM_ERROR_INVALID_VALUE, and unused bits of no octet
+ * DM_ERROR_UNUSED_BITS_NOT_ZERO (8.6.2). */
 uint32_t dm_next_bool(dm_cursor *cursor, uint8_t *value, dm_fault *fault);
 uint32_t dm_next_u64(dm_cursor *cursor, uint64_t *value, dm_fault *fault);
 uint32_t dm_next_i64(dm_cursor *cursor, int64_t *value, dm_fault *fault);

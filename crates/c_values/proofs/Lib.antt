@@ -1,4 +1,5 @@
 pub mod Alike
+pub mod ExactBits
 pub mod Firsts
 pub mod Moments
 pub mod Puts

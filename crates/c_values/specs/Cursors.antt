@@ -1,19 +1,23 @@
 -- Cursors of C, as cursors.
 use Rattle.std.specs.Borrow.{Bor}
-use Rattle.std.specs.Prelude.{◌≡◌, ℕ, ◌+◌, ◌-◌, ◌^◌, ◌==◌, if◌then◌else◌, min, Bool, false, Some, List, length}
-use Rattle.std.specs.Prelude.{Result, Ok, Err}
+use Rattle.std.specs.Prelude.{◌≡◌, ◌≢◌, ℕ, ◌+◌, ◌-◌, ◌^◌, ◌<◌, ◌==◌, if◌then◌else◌, min, Bool, false, Some, None}
+use Rattle.std.specs.Prelude.{List, [], ◌∷◌, ◌++◌, length, codes, Result, Ok, Err}
 use Rattle.der_base.specs.declared.any.Any.{Any}
+use Rattle.der_base.specs.declared.error.DerConstraint.TheVariants.{UnusedBitsNotZero}
+use Rattle.der_base.specs.declared.error.Err.TheVariants.{Error}
 use Rattle.der_base.specs.declared.error.Error.{Error as BerError}
 use Rattle.der_base.specs.declared.rules.Rules.{Rules}
 use Rattle.der_base.specs.declared.rules.Rules.TheVariants.{Ber, Der}
 use Rattle.der_base.specs.declared.time.ASN1DateTime.{ASN1DateTime}
+use Rattle.der_base.specs.LeafRefusal.{Test, IsFirstRefusal, NoneHolds, refuse}
+use Rattle.der_base.specs.Refusal.{refusal, der_constraint, invalid_value}
 use Rattle.der_cursor.specs.declared.cursor.Cursor.{Cursor}
 use Rattle.der_cursor.specs.declared.refusal.Refusal.{Refusal}
 use Rattle.der_cursor.specs.Cursors.{end_of, is_inside, octets_left, place_of, rules_of}
 use Rattle.der_cursor.specs.Elements.{element_of}
 use Rattle.der_values.specs.declared.bits.BitString.{BitString}
 use Rattle.der_values.specs.declared.identifier.ObjectIdentifier.{ObjectIdentifier}
-use Rattle.der_values.specs.Kinds.{borrowed_octets}
+use Rattle.der_values.specs.Kinds.{Kind, bit_strings, borrowed_octets}
 use Rattle.der_x509.specs.Certificates.{bits_of}
 use Rattle.c_values.specs.declared.any.DmAny.{DmAny}
 use Rattle.c_values.specs.declared.cursor.DmCursor.{DmCursor}
@@ -97,6 +101,25 @@ IsOctets x d = d.octets.now ≡ x.now
 
 abbrev pub IsIdentifier : ObjectIdentifier → DmOctets → Type 0
 IsIdentifier x d = d.octets.now ≡ borrowed_octets x
+
+-- At most seven bits are unused (X.690 8.6.2.2), and none of no octet (8.6.2.3). The refusals are those by DER.
+abbrev pub unused_bits_tests : List ℕ → List Test
+unused_bits_tests w =
+    refuse ((u : ℕ) × (v : List ℕ) × (w ≡ u ∷ v) × (7 < u)) (invalid_value 3 (codes "More than 7 unused bits"))
+    ∷ refuse ((u : ℕ) × (w ≡ u ∷ []) × (u ≢ 0)) (der_constraint UnusedBitsNotZero)
+    ∷ []
+
+-- a BIT STRING of which that holds by BER too, where der-parser takes any number of unused bits
+abbrev pub exact_bit_strings : Rules → Kind (ℕ × List ℕ)
+exact_bit_strings r = let k = bit_strings r in
+    record { tests = λ w. k.tests w ++ unused_bits_tests w; means = k.means }
+
+-- bits that were read at the start of an input stay, or they are refused there by these tests
+abbrev pub TestsUnusedBits : Result BitString (Refusal BerError) → Result BitString (Refusal BerError) → Type 0
+TestsUnusedBits (Err e) result = result ≡ Err e
+TestsUnusedBits (Ok b) (Ok x) = NoneHolds (unused_bits_tests (b.unused ∷ b.octets.now)) × (x ≡ b)
+TestsUnusedBits (Ok b) (Err e) = (x : BerError) × IsFirstRefusal (unused_bits_tests (b.unused ∷ b.octets.now)) (refusal x)
+    × (e ≡ record { offset = 0; list_end = None; reason = Error x })
 
 abbrev pub IsBits : BitString → DmBits → Type 0
 IsBits x d = bits_in d ≡ bits_numbers (Some (bits_of x))

@@ -1,8 +1,10 @@
 //! Fields that a cursor read, written for C. The cursor goes on after them, or it stays.
-ghost use Rattle.std.specs.Prelude.{◌≡◌, Result};
+ghost use Rattle.std.specs.Prelude.{◌≡◌, ◌∷◌, MatchResult, Result};
 ghost use Rattle.c_values.specs.Cursors.{Finishes, IsAny, IsBit, IsBits, IsIdentifier, IsInner, IsNull, IsOctets};
-ghost use Rattle.c_values.specs.Cursors.{IsTime, end_fault};
+ghost use Rattle.c_values.specs.Cursors.{IsTime, TestsUnusedBits, end_fault, unused_bits_tests};
 ghost use Rattle.der_base.specs.declared.error.Error.{Error as BerError};
+ghost use Rattle.der_base.specs.LeafRefusal.{IsFirstRefusal, NoneHolds};
+ghost use Rattle.der_base.specs.Refusal.{refusal};
 ghost use Rattle.der_cursor.specs.declared.refusal.Refusal.{Refusal};
 ghost use Rattle.der_cursor.specs.declared.cursor.Cursor.{Cursor};
 
@@ -14,7 +16,8 @@ use crate::octets::DmOctets;
 use crate::parts::{DmBits, bits, identifier_octets};
 use crate::time::{DmTime, time_fields};
 use der_base::any::Any;
-use der_base::error::BerError;
+use der_base::error::{BerError, DerConstraint, Err as Refused};
+use der_base::header::Tag;
 use der_base::time::ASN1DateTime;
 use der_cursor::{Cursor, Refusal};
 use der_values::{BitString, ObjectIdentifier};
@@ -74,6 +77,41 @@ pub fn finish_oid<'a>(
         }
         Err(e) => moved_fault(cursor, e),
     }
+}
+
+/// Bits that were read at the start of an input, unless their unused bits are refused there.
+pub fn with_unused_bits_tested<'a>(
+    found: Result<BitString<'a>, Refusal<BerError>>,
+) -> Result<BitString<'a>, Refusal<BerError>>
+    ensures { TestsUnusedBits found.entry result }
+{
+    match found {
+        Ok(bits) => match check_unused_bits(bits) {
+            Ok(()) => Ok(bits),
+            Err(e) => Err(Refusal {
+                offset: 0,
+                list_end: None,
+                reason: Refused::Error(e),
+            }),
+        },
+        Err(e) => Err(e),
+    }
+}
+
+/// Checks that at most seven bits are unused (X.690 8.6.2.2), and none of no octet (8.6.2.3). By BER `read_bits` takes
+/// any number, as der-parser does.
+fn check_unused_bits(bits: BitString<'_>) -> Result<(), BerError>
+    ensures { MatchResult result
+        (λ _. NoneHolds (unused_bits_tests (bits.entry.unused ∷ bits.entry.octets.now)))
+        (λ e. IsFirstRefusal (unused_bits_tests (bits.entry.unused ∷ bits.entry.octets.now)) (refusal e)) }
+{
+    if bits.unused > 7 {
+        return Err(BerError::invalid_value(Tag::BitString, "More than 7 unused bits"));
+    }
+    if bits.octets.is_empty() && bits.unused != 0 {
+        return Err(BerError::DerConstraintFailed(DerConstraint::UnusedBitsNotZero));
+    }
+    Ok(())
 }
 
 /// Writes a BIT STRING that was read, and goes on after it; or returns the fault.

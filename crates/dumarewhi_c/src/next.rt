@@ -1,7 +1,7 @@
 //! Calls that read the next field of a cursor. With another status than 0 the cursor and the value stay.
 ghost use Rattle.std.specs.Prelude.{◌≡◌, ◌≤◌, ◌↔◌, Result, pos, true};
 ghost use Rattle.c_values.specs.Cursors.{Continues, IsAny, IsBit, IsBits, IsIdentifier, IsInner, IsNull, IsOctets};
-ghost use Rattle.c_values.specs.Cursors.{IsSame, IsTime, ReadsField, end_fault, rules_in};
+ghost use Rattle.c_values.specs.Cursors.{IsSame, IsTime, ReadsField, end_fault, exact_bit_strings, rules_in};
 ghost use Rattle.c_values.specs.Writers.{class_of, is_set};
 ghost use Rattle.der_base.specs.declared.error.Error.{Error as BerError};
 ghost use Rattle.der_base.specs.Numbers.{signed, unsigned};
@@ -9,7 +9,7 @@ ghost use Rattle.der_cursor.specs.declared.refusal.Refusal.{Refusal};
 ghost use Rattle.der_cursor.specs.declared.cursor.Cursor.{Cursor};
 ghost use Rattle.der_cursor.specs.Cursors.{EndsAt, OpensAt, OpensType, ReadsAnyAt, ReadsValue};
 ghost use Rattle.der_cursor.specs.Elements.{IsNext};
-ghost use Rattle.der_values.specs.Kinds.{bit_strings, booleans, borrowed_octets, enumerated_numbers, identifiers};
+ghost use Rattle.der_values.specs.Kinds.{booleans, borrowed_octets, enumerated_numbers, identifiers};
 ghost use Rattle.der_values.specs.Kinds.{integers, nulls, numbers, octet_strings, times};
 
 use c_values::any::DmAny;
@@ -18,7 +18,7 @@ use c_values::element::bit;
 use c_values::fault::DmFault;
 use c_values::next::{
     end_fault, finish_any, finish_bits, finish_bool, finish_null, finish_octets, finish_oid,
-    finish_opening, finish_time,
+    finish_opening, finish_time, with_unused_bits_tested,
 };
 use c_values::octets::DmOctets;
 use c_values::parts::DmBits;
@@ -147,7 +147,7 @@ pub extern "C" fn dm_next_oid<'a>(
     fault.status
 }
 
-/// The bits of a BIT STRING (8.6, 11.2).
+/// The bits of a BIT STRING (8.6, 11.2). By BER too at most seven are unused, and none of no octet (8.6.2).
 #[unsafe(no_mangle)]
 pub extern "C" fn dm_next_bits<'a>(
     cursor: &mut DmCursor<'a>,
@@ -155,12 +155,12 @@ pub extern "C" fn dm_next_bits<'a>(
     fault: &mut DmFault,
 ) -> u32
     ensures exactly { ReadsField
-        (ReadsValue (λ v. (v.unused, v.octets.now)) (bit_strings (rules_in cursor.old.rules)) 3) IsBits
+        (ReadsValue (λ v. (v.unused, v.octets.now)) (exact_bit_strings (rules_in cursor.old.rules)) 3) IsBits
         cursor.old cursor.new value.old value.new fault.new }
     ensures status { result ≡ fault.new.status }
 {
     let mut fields = resume(cursor);
-    let found = fields.bits();
+    let found = with_unused_bits_tested(fields.bits());
     *fault = finish_bits(cursor, fields, found, value);
     fault.status
 }
