@@ -380,6 +380,43 @@ static void test_clamped_depth(void) {
     }
 }
 
+/* An element that is too deep, with a fault of its own: one of its header comes before the depth, and one of its tag or
+ * content octets too, unless the depth is the greatest. */
+static void test_faults_that_are_too_deep(void) {
+    static const struct {
+        const char *octets;
+        uint32_t error, at_most;
+    } rows[] = {
+        {"\x01\x81\x01", DM_ERROR_LENGTH_NOT_MINIMAL, DM_ERROR_LENGTH_NOT_MINIMAL},
+        {"\x02\x05\x00", DM_ERROR_OVERRUN, DM_ERROR_OVERRUN},
+        {"\x22\x01\x00", DM_ERROR_PRIMITIVE_EXPECTED, DM_ERROR_MAX_DEPTH},
+        {"\x01\x01\x7f", DM_ERROR_BOOLEAN_VALUE, DM_ERROR_MAX_DEPTH},
+        {"\x01\x01\xff", DM_ERROR_MAX_DEPTH, DM_ERROR_MAX_DEPTH}};
+    static const size_t depths[] = {1, 50, DM_MAX_DEPTH - 1, DM_MAX_DEPTH, DM_MAX_DEPTH + 1};
+    uint8_t input[4 * DM_MAX_DEPTH + 3];
+    dm_outcome outcome;
+    for (size_t i = 0; i < sizeof depths / sizeof *depths; i++) {
+        size_t levels = depths[i] < DM_MAX_DEPTH ? depths[i] : DM_MAX_DEPTH, length = 4 * levels + 3;
+        for (size_t row = 0; row < sizeof rows / sizeof *rows; row++) {
+            uint8_t *at = input + length - 3;
+            memcpy(at, rows[row].octets, 3);
+            for (size_t level = 0; level < levels; level++) {
+                /* By DER the innermost ones have a header of two octets. */
+                size_t inside = (size_t)(input + length - at);
+                if (inside < 128) *--at = (uint8_t)inside;
+                else if (inside < 256) *--at = (uint8_t)inside, *--at = 0x81;
+                else *--at = (uint8_t)inside, *--at = (uint8_t)(inside >> 8), *--at = 0x82;
+                *--at = 0x30;
+            }
+            size_t size = (size_t)(input + length - at);
+            uint32_t error = depths[i] < DM_MAX_DEPTH ? rows[row].error : rows[row].at_most;
+            expect(dm_check_der(at, size, depths[i], &outcome) == DM_ERROR && outcome.error == error
+                       && outcome.place == size - 3,
+                   "dm_check_der", "a fault that is too deep");
+        }
+    }
+}
+
 /* X.690 8.9.3 in BER, with each place; the buffer has room for two of three. */
 static void test_places(void) {
     uint8_t input[64];
@@ -615,6 +652,7 @@ int main(void) {
     test_writings();
     test_deep_writings();
     test_clamped_depth();
+    test_faults_that_are_too_deep();
     test_places();
     test_integers();
     test_booleans();

@@ -318,6 +318,28 @@ static void test_marks(void) {
     EXPECT_OCTETS(dm_close(&w, dm_open(&w, DM_APPLICATION, 0, 4096)), "\x5f\xa0\x00\x00");
 }
 
+/* An implicit tag is for the next primitive element. What opens or closes another one drops it, also where nothing is
+ * closed, and so do elements that are put as they are. */
+static void test_dropped_tags(void) {
+    dm_mark a, b;
+#define TAG(w) dm_implicit(&(w), DM_CONTEXT_SPECIFIC, 2)
+    EXPECT_OCTETS((TAG(w), a = dm_open_sequence(&w), dm_put_null(&w), dm_close(&w, a)), "\x30\x02\x05\x00");
+    EXPECT_OCTETS((TAG(w), a = dm_open_set(&w), dm_put_null(&w), dm_close(&w, a)), "\x31\x02\x05\x00");
+    EXPECT_OCTETS((TAG(w), a = dm_open_octet_string(&w), dm_put_null(&w), dm_close(&w, a)), "\x04\x02\x05\x00");
+    EXPECT_OCTETS((TAG(w), a = dm_open_tagged(&w, 7), dm_put_null(&w), dm_close(&w, a)), "\xa7\x02\x05\x00");
+    EXPECT_OCTETS((TAG(w), a = dm_open(&w, DM_PRIVATE, 1, 7), dm_put_null(&w), dm_close(&w, a)), "\xe7\x02\x05\x00");
+    EXPECT_OCTETS((a = dm_open_sequence(&w), TAG(w), dm_close(&w, a), dm_put_null(&w)), "\x30\x00\x05\x00");
+    EXPECT_OCTETS((a = dm_open_set(&w), TAG(w), dm_close_set_of(&w, a), dm_put_null(&w)), "\x31\x00\x05\x00");
+    EXPECT_OCTETS((a = dm_open_sequence(&w), b = dm_open_set(&w), TAG(w), dm_close(&w, a), dm_put_null(&w),
+                   dm_close(&w, b), dm_close(&w, a)),
+                  "\x30\x04\x31\x02\x05\x00");
+    EXPECT_OCTETS((TAG(w), dm_put_elements(&w, octets_of("\x05\x00"), 2), dm_put_null(&w)), "\x05\x00\x05\x00");
+    EXPECT_OCTETS((TAG(w), dm_put_elements(&w, octets_of(""), 0), dm_put_null(&w)), "\x05\x00");
+    size_t length;
+    EXPECT_OCTETS((TAG(w), dm_finish(&w, &length), dm_put_null(&w)), "\x82\x00");
+#undef TAG
+}
+
 /* A SET OF elements, which openssl asn1parse -genconf writes in this order. */
 static void put_set_of(dm_writer *w) {
     dm_mark set = dm_open_set(w);
@@ -451,6 +473,7 @@ int main(int count, char **words) {
     test_times();
     test_refused();
     test_marks();
+    test_dropped_tags();
     test_sets_of();
     test_any_state();
     for (int i = 0; i < 2000; i++) test_random();
