@@ -1,12 +1,19 @@
 /* Fields: a cursor of BER or DER, whose calls the first octets choose. */
 #include "fuzz.h"
 
+static uint32_t next_bits(dm_cursor *cursor, dm_fault *fault) {
+    dm_octets left = cursor->left;
+    dm_bits bits;
+    uint32_t status = dm_next_bits(cursor, &bits, fault);
+    if (status == DM_OK) expect_bits(&bits, left.octets, left.length);
+    return status;
+}
+
 static uint32_t next(dm_cursor *cursor, dm_cursor *inner, uint8_t call, dm_fault *fault) {
     uint8_t truth;
     uint64_t number;
     int64_t signed_number;
     dm_octets octets;
-    dm_bits bits;
     dm_time time;
     dm_any any;
     switch (call % 15) {
@@ -17,7 +24,7 @@ static uint32_t next(dm_cursor *cursor, dm_cursor *inner, uint8_t call, dm_fault
     case 4: return dm_next_integer(cursor, &octets, fault);
     case 5: return dm_next_octets(cursor, &octets, fault);
     case 6: return dm_next_oid(cursor, &octets, fault);
-    case 7: return dm_next_bits(cursor, &bits, fault);
+    case 7: return next_bits(cursor, fault);
     case 8: return dm_next_null(cursor, fault);
     case 9: return dm_next_utc_time(cursor, &time, fault);
     case 10: return dm_next_generalized_time(cursor, &time, fault);

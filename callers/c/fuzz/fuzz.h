@@ -26,7 +26,7 @@ static inline void expect_part(dm_octets part, const uint8_t *octets, size_t len
 
 static inline void expect_bits(const dm_bits *bits, const uint8_t *octets, size_t length) {
     expect_part(bits->octets, octets, length);
-    expect(bits->is_present <= 1 && bits->unused <= 7);
+    expect(bits->is_present <= 1 && bits->unused <= (bits->octets.length == 0 ? 0 : 7));
 }
 
 static inline void expect_any(const dm_any *any, const uint8_t *octets, size_t length) {
