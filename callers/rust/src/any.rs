@@ -4,6 +4,7 @@ use crate::error::{ErrorKind, Result};
 use crate::{BitString, Class, Element, Error, Integer, ObjectIdentifier, Reader, Tag, Time};
 use core::fmt;
 use core::hash::{Hash, Hasher};
+use core::ops::Range;
 
 /// An element of any type.
 ///
@@ -71,13 +72,18 @@ impl<'a> Any<'a> {
 
     /// Where the content octets begin, in octets from the start of the input.
     pub fn content_offset(&self) -> usize {
-        self.base + self.element.content
+        self.base.saturating_add(self.element.content)
     }
 
     /// The rules that the element was read by.
     #[cfg(feature = "alloc")]
     pub(crate) fn rules(&self) -> Rules {
         self.rules
+    }
+
+    /// A part of the input, in which it is.
+    fn part(&self, range: Range<usize>) -> &'a [u8] {
+        self.input.get(range).unwrap_or_default()
     }
 
     /// Reads it as a value of a type with this tag.
@@ -126,13 +132,13 @@ calls! {
     /// The class of the tag.
     class: Class = |it| it.tag.class;
     /// Where the element begins, in octets from the start of the input.
-    offset: usize = |it| it.base + it.element.header;
+    offset: usize = |it| it.base.saturating_add(it.element.header);
     /// The identifier and length octets.
-    header: &'a [u8] = |it| &it.input[it.element.header_range()];
+    header: &'a [u8] = |it| it.part(it.element.header_range());
     /// The content octets, without an end marker.
-    content: &'a [u8] = |it| &it.input[it.element.content_range()];
+    content: &'a [u8] = |it| it.part(it.element.content_range());
     /// All octets: the header, the content, and an end marker (X.690 8.1.5) after an indefinite length.
-    octets: &'a [u8] = |it| &it.input[it.element.range()];
+    octets: &'a [u8] = |it| it.part(it.element.range());
     /// A reader of the elements that a constructed element's content octets are, by the same rules.
     ///
     /// ```
@@ -173,7 +179,7 @@ calls! {
     as_time: Result<Time> = |it| match it.tag {
         Tag::UTC_TIME => it.read(Tag::UTC_TIME, Reader::utc_time),
         _ => it.read(Tag::GENERALIZED_TIME, Reader::generalized_time),
-    };
+    }.map_err(Error::without_value);
     /// Whether it is a NULL (X.690 8.8).
     is_null: bool = |it| it.tag == Tag::NULL;
 }
@@ -190,14 +196,16 @@ impl Rules {
     /// ```
     pub fn any(self, input: &[u8]) -> Result<(&[u8], Any<'_>)> {
         let element = self.list_first(input)?;
-        Ok((&input[element.range().end..], Any::new(input, element, 0, self)))
+        let rest = input.get(element.range().end..).unwrap_or_default();
+        Ok((rest, Any::new(input, element, 0, self)))
     }
 
     /// The first element, with what is inside it checked.
     pub(crate) fn list_first(self, input: &[u8]) -> Result<Element> {
-        let mut element = [Element::default()];
-        self.list(input, &mut element)?;
-        Ok(element[0])
+        let mut elements = [Element::default()];
+        self.list(input, &mut elements)?;
+        let [element] = elements;
+        Ok(element)
     }
 }
 

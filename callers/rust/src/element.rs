@@ -143,13 +143,14 @@ pub(crate) fn found(outcome: Outcome, input: &[u8]) -> Result<Found> {
 pub(crate) fn whole<T>(input: &[u8], (rest, value): (&[u8], T)) -> Result<T> {
     match rest.len() {
         0 => Ok(value),
-        left => Err(Error::new(ErrorKind::TrailingData, input.len() - left)),
+        left => Err(Error::new(ErrorKind::TrailingData, input.len().saturating_sub(left))),
     }
 }
 
 /// How many elements an input is, if no octets follow them.
 fn count(input: &[u8], found: Found) -> Result<usize> {
-    whole(input, (&input[found.length..], found.elements))
+    let rest = input.get(found.length..).unwrap_or_default();
+    whole(input, (rest, found.elements))
 }
 
 /// Checks that the input is one element in DER and nothing else. Returns how many elements there are: itself

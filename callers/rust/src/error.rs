@@ -35,7 +35,7 @@ pub enum ErrorKind {
     /// The input breaks a rule of its encoding. No further input mends that.
     Malformed(Reason),
     /// The content octets have no value of the type that is asked for. So it is with a number that is too
-    /// large for a `u64`.
+    /// large for a `u64`, and with a time that is valid by BER and that no [`Time`](crate::Time) is.
     Value(Reason),
     /// The input is cut short: more octets may complete it.
     Incomplete {
@@ -90,8 +90,9 @@ pub enum ErrorKind {
 /// let error = check_der(&[0x01, 0x01, 0x7f]).unwrap_err();
 /// assert_eq!(error.kind(), ErrorKind::Malformed(Reason::BOOLEAN_VALUE));
 /// assert_eq!(Reason::BOOLEAN_VALUE.to_string(), "a BOOLEAN is neither 00 nor ff (X.690 11.1)");
+/// assert_eq!(format!("{:?}", error.kind()), "Malformed(BOOLEAN_VALUE)");
 /// ```
-#[derive(Clone, Copy, Debug, PartialEq, Eq, Hash, PartialOrd, Ord)]
+#[derive(Clone, Copy, PartialEq, Eq, Hash, PartialOrd, Ord)]
 pub struct Reason(pub(crate) u32);
 
 /// The result of a call of this crate.
@@ -141,11 +142,10 @@ impl Error {
     /// What the library says of this input.
     pub(crate) fn of_input(fault: Fault, input: &[u8]) -> Error {
         let found = match Reason(fault.error) {
-            Reason::UNEXPECTED_TAG | Reason::UNEXPECTED_CLASS => {
-                Rules::DER.first(&input[fault.offset..]).ok()
-            }
+            Reason::UNEXPECTED_TAG | Reason::UNEXPECTED_CLASS => input.get(fault.offset..),
             _ => None,
         };
+        let found = found.and_then(|octets| Rules::DER.first(octets).ok());
         Error {
             found: found.map(|element| element.tag()),
             ..Error::of_fault(fault)
@@ -224,6 +224,17 @@ impl Error {
         Error::new(kind, self.offset()).after(offset)
     }
 
+    /// The same error of content octets that keep the rules of their type: so they have no value.
+    pub(crate) fn without_value(self) -> Error {
+        match self.kind {
+            ErrorKind::Malformed(reason) => Error {
+                kind: ErrorKind::Value(reason),
+                ..self
+            },
+            _ => self,
+        }
+    }
+
     /// The same error of an input that begins at this offset of another one.
     pub(crate) fn after(self, offset: usize) -> Error {
         Error::new(self.kind, self.offset().saturating_add(offset))
@@ -236,6 +247,13 @@ macro_rules! reasons {
         impl Reason {
             $(#[doc = concat!("\"", $text, "\", number ", $number, ".")]
             pub const $name: Reason = Reason($number);)*
+
+            fn name(self) -> Option<&'static str> {
+                match self {
+                    $(Reason::$name => Some(stringify!($name)),)*
+                    _ => None,
+                }
+            }
         }
 
         #[cfg(test)]
@@ -368,6 +386,16 @@ impl Reason {
     /// The number.
     pub const fn number(self) -> u32 {
         self.0
+    }
+}
+
+/// The name of its constant, or its number.
+impl fmt::Debug for Reason {
+    fn fmt(&self, f: &mut fmt::Formatter<'_>) -> fmt::Result {
+        match self.name() {
+            Some(name) => f.write_str(name),
+            None => write!(f, "Reason({})", self.0),
+        }
     }
 }
 

@@ -147,8 +147,8 @@ impl Iterator for Arcs<'_> {
             return Some(second);
         }
         let last = self.rest.iter().position(|octet| octet & 0x80 == 0)?;
-        let (subidentifier, rest) = self.rest.split_at(last + 1);
-        self.rest = rest;
+        let subidentifier = self.rest.get(..=last)?;
+        self.rest = self.rest.get(last.saturating_add(1)..)?;
         let digits = subidentifier.iter().map(|octet| u128::from(octet & 0x7f));
         let number = digits.fold(0_u128, |number, digit| number.saturating_mul(128) | digit);
         if self.started {
@@ -156,7 +156,7 @@ impl Iterator for Arcs<'_> {
         }
         self.started = true;
         let first = (number / 40).min(2);
-        self.second = Some(number - 40 * first);
+        self.second = Some(number.saturating_sub(first.saturating_mul(40)));
         Some(first)
     }
 }
@@ -194,67 +194,75 @@ pub const fn oid_of(octets: &'static [u8]) -> ObjectIdentifier<'static> {
 /// How many content octets an identifier with these arcs has.
 #[doc(hidden)]
 pub const fn oid_length(arcs: &[u128]) -> usize {
+    let mut next = first_subidentifier(arcs);
     assert!(
-        are_arcs(arcs),
+        next.is_some(),
         "no object identifier has these arcs (X.690 8.19.4)"
     );
-    let mut length = 0;
-    let mut index = 1;
-    while index < arcs.len() {
-        length += DIGITS - spelled(subidentifier(arcs, index)).1;
-        index += 1;
+    let mut length = 0_usize;
+    while let Some((number, rest)) = next {
+        length = length.saturating_add(octet_count(number) as usize);
+        next = next_subidentifier(rest);
     }
     length
 }
 
 /// The content octets of an identifier with these arcs.
 #[doc(hidden)]
+// In a function that runs while a program is compiled, an array has no `get_mut` before Rust 1.83.
+#[allow(clippy::indexing_slicing)]
 pub const fn oid_octets<const N: usize>(arcs: &[u128]) -> [u8; N] {
     let mut octets = [0; N];
-    let mut length = 0;
-    let mut index = 1;
-    while index < arcs.len() {
-        let (digits, mut start) = spelled(subidentifier(arcs, index));
-        while start < DIGITS {
-            octets[length] = digits[start];
-            start += 1;
-            length += 1;
+    let mut length = 0_usize;
+    let mut next = first_subidentifier(arcs);
+    while let Some((number, rest)) = next {
+        let mut following = octet_count(number);
+        while following > 0 && length < N {
+            following = following.saturating_sub(1);
+            octets[length] = octet(number, following);
+            length = length.saturating_add(1);
         }
-        index += 1;
+        next = next_subidentifier(rest);
     }
     octets
 }
 
-/// Whether an identifier can have these arcs: two at least, whose first subidentifier is below 2^128 (X.690 8.19.4).
-const fn are_arcs(arcs: &[u128]) -> bool {
+/// The subidentifier that the first two arcs have, and the arcs after them. `None` if no identifier has these arcs: it
+/// has two at least, and the first subidentifier is below 2^128 (X.690 8.19.4).
+const fn first_subidentifier(arcs: &[u128]) -> Option<(u128, &[u128])> {
+    let (subidentifier, rest) = match arcs {
+        [0, second, rest @ ..] if *second < 40 => (Some(*second), rest),
+        [1, second, rest @ ..] if *second < 40 => (second.checked_add(40), rest),
+        [2, second, rest @ ..] => (second.checked_add(80), rest),
+        _ => return None,
+    };
+    match subidentifier {
+        Some(number) => Some((number, rest)),
+        None => None,
+    }
+}
+
+/// The subidentifier that a further arc is, and the arcs after it.
+const fn next_subidentifier(arcs: &[u128]) -> Option<(u128, &[u128])> {
     match arcs {
-        [0 | 1, second, ..] => *second < 40,
-        [2, second, ..] => *second <= u128::MAX - 80,
-        _ => false,
+        [number, rest @ ..] => Some((*number, rest)),
+        [] => None,
     }
 }
 
-/// The subidentifier that ends with this arc, one but the first: the first two arcs have one.
-const fn subidentifier(arcs: &[u128], index: usize) -> u128 {
-    match index {
-        1 => 40 * arcs[0] + arcs[1],
-        _ => arcs[index],
+/// How many octets a subidentifier has: one for each seven bits.
+const fn octet_count(number: u128) -> u32 {
+    match u128::BITS.saturating_sub(number.leading_zeros()) {
+        0 => 1,
+        bits => bits.saturating_add(6) / 7,
     }
 }
 
-/// How many digits in base 128 a number has at most.
-const DIGITS: usize = 19;
-
-/// A number in base 128, where all octets but the last have the highest bit (X.690 8.19.2), and where it begins.
-const fn spelled(number: u128) -> ([u8; DIGITS], usize) {
-    let mut octets = [0; DIGITS];
-    let mut start = DIGITS - 1;
-    octets[start] = (number & 0x7f) as u8;
-    let mut rest = number >> 7;
-    while rest > 0 {
-        start -= 1;
-        octets[start] = 0x80 | (rest & 0x7f) as u8;
-        rest >>= 7;
+/// The octet of a subidentifier that so many follow. All but the last have the highest bit (X.690 8.19.2).
+const fn octet(number: u128, following: u32) -> u8 {
+    let bits = number.wrapping_shr(following.saturating_mul(7)) as u8 & 0x7f;
+    match following {
+        0 => bits,
+        _ => bits | 0x80,
     }
-    (octets, start)
 }

@@ -78,15 +78,15 @@ impl<'t> Iterator for Blocks<'t> {
 
     fn next(&mut self) -> Option<Result<Block<'t>>> {
         let text = self.text.get();
-        let offset = self.offset + ffi::find_pem(text)?;
+        let offset = self.offset.saturating_add(ffi::find_pem(text)?);
         let found = ffi::next_pem(&mut self.text, &mut self.characters, &mut self.octets);
-        let taken = text.len() - self.text.get().len();
-        self.offset += taken;
+        let taken = text.len().saturating_sub(self.text.get().len());
+        self.offset = self.offset.saturating_add(taken);
         let error = |number| Error::new(ErrorKind::Malformed(Reason(number)), offset);
         let block = |fields: ffi::PemFields<'t>| Block {
             label: fields.label.get(),
             offset,
-            octets: self.octets[..fields.length].to_vec(),
+            octets: self.octets.get(..fields.length).unwrap_or_default().to_vec(),
         };
         let found = found.map(block).map_err(error);
         if taken == 0 {

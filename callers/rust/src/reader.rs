@@ -1,7 +1,7 @@
 //! Field after field.
 use crate::error::{ErrorKind, Result};
 use crate::ffi::{self, Cursor, Fault};
-use crate::{Any, BitString, Decode, Error, Integer, ObjectIdentifier, Reason, Rules, Tag, Time};
+use crate::{Any, BitString, Class, Decode, Error, Integer, ObjectIdentifier, Reason, Rules, Tag, Time};
 
 /// Reads the fields of a type, one after the other, by calls that are proved.
 ///
@@ -188,6 +188,9 @@ impl<'a> Reader<'a> {
             },
             (Reason::CONSTRUCTED_EXPECTED, Some(tag)) => ErrorKind::ConstructedExpected(tag),
             (Reason::PRIMITIVE_EXPECTED, Some(tag)) => ErrorKind::PrimitiveExpected(tag),
+            (Reason::INVALID_TIME, Some(tag)) if tag.class == Class::Universal && self.clone().any().is_ok() => {
+                ErrorKind::Value(Reason::INVALID_TIME)
+            }
             _ => Error::of_fault(fault).kind(),
         };
         Error::new(kind, fault.offset)
@@ -264,7 +267,8 @@ impl<'a> Reader<'a> {
         self.attempt(|r| {
             let (octets, offset) = (r.remaining(), r.offset());
             r.header()?;
-            let octets = &octets[..octets.len() - r.remaining().len()];
+            let length = octets.len().saturating_sub(r.remaining().len());
+            let octets = octets.get(..length).unwrap_or_default();
             let element = r
                 .rules()
                 .list_first(octets)
@@ -348,7 +352,7 @@ impl<'a> Reader<'a> {
     /// # Ok::<(), dumarewhi::Error>(())
     /// ```
     pub fn expect_implicit(&mut self, tag: Tag) -> &mut Reader<'a> {
-        self.cursor.implicit = 1 + tag.class as u32;
+        self.cursor.implicit = (tag.class as u32).saturating_add(1);
         self.cursor.number = tag.number;
         self
     }

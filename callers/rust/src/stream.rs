@@ -73,7 +73,7 @@ impl Buffer {
     pub fn feed(&mut self, piece: &[u8]) {
         if self.start > 0 {
             self.octets.drain(..self.start);
-            self.dropped += self.start as u64;
+            self.dropped = self.position();
             self.start = 0;
         }
         self.octets.extend_from_slice(piece);
@@ -99,9 +99,9 @@ impl Buffer {
         match self.first_length() {
             Ok(length) => {
                 let start = self.start;
-                self.start += length;
+                self.start = start.saturating_add(length);
                 self.wanted = 1;
-                Ok(Some(&self.octets[start..self.start]))
+                Ok(Some(self.octets.get(start..self.start).unwrap_or_default()))
             }
             Err(error) => match error.kind() {
                 ErrorKind::Incomplete { missing } => {
@@ -131,12 +131,12 @@ impl Buffer {
 
     /// The octets that were fed and aren't taken yet.
     pub fn pending(&self) -> &[u8] {
-        &self.octets[self.start..]
+        self.octets.get(self.start..).unwrap_or_default()
     }
 
     /// How many octets were taken so far: where the next element begins in the whole input.
     pub fn position(&self) -> u64 {
-        self.dropped + self.start as u64
+        self.dropped.saturating_add(self.start as u64)
     }
 
     /// How many more octets the next element needs at least, as far as the input shows. If an element may be

@@ -4,6 +4,7 @@ use crate::error::Reason;
 use crate::ffi::{self, MomentFields, TimeFields};
 use core::cmp::Ordering;
 use core::fmt;
+use core::num::Wrapping;
 #[cfg(feature = "std")]
 use std::time::{Duration, SystemTime};
 
@@ -57,13 +58,25 @@ pub enum Zone {
     },
 }
 
+/// A number of days or seconds. None that a [`Time`] has comes near its limits.
+type Count = Wrapping<i64>;
+
+fn count(number: impl Into<i64>) -> Count {
+    Wrapping(number.into())
+}
+
 const SECONDS_OF_A_DAY: i64 = 86_400;
+
+/// The days from the 1st of March to a month, of which March is number 0.
+fn days_to_month(month: i64) -> i64 {
+    (count(month) * count(153) + count(2)).0 / 5
+}
 
 /// The days of 400 years, after which the calendar repeats.
 const DAYS_OF_400_YEARS: i64 = 146_097;
 
-/// The days from the 1st of March of the year 0 to the 1st of January of 1970.
-const DAYS_TO_1970: i64 = 719_468;
+/// The days from the 1st of March of the year -400 to the 1st of January of 1970.
+const DAYS_TO_1970: i64 = 865_565;
 
 impl Time {
     /// The seconds from 1970-01-01T00:00:00Z to it, without leap seconds and its fraction. A local time counts as UTC,
@@ -78,39 +91,42 @@ impl Time {
     /// ```
     pub fn unix_seconds(&self) -> i64 {
         let (hours, minutes) = match self.zone {
-            Zone::Offset { hours, minutes } => (i64::from(hours), i64::from(minutes)),
-            _ => (0, 0),
+            Zone::Offset { hours, minutes } => (count(hours), count(minutes)),
+            _ => (count(0), count(0)),
         };
-        let minutes = (i64::from(self.hour) - hours) * 60 + i64::from(self.minute) - minutes;
-        self.days() * SECONDS_OF_A_DAY + minutes * 60 + i64::from(self.second)
+        let minutes = (count(self.hour) - hours) * count(60) + count(self.minute) - minutes;
+        let seconds = minutes * count(60) + count(self.second);
+        (self.days() * count(SECONDS_OF_A_DAY) + seconds).0
     }
 
-    /// The days from 1970-01-01. A year is counted from March on, so that a leap day is its last.
-    fn days(&self) -> i64 {
-        let year = i64::from(self.year) - i64::from(self.month <= 2);
-        let month = (i64::from(self.month) + 9) % 12;
-        let leap_days = year.div_euclid(4) - year.div_euclid(100) + year.div_euclid(400);
-        year * 365 + leap_days + (153 * month + 2) / 5 + i64::from(self.day) - 1 - DAYS_TO_1970
+    /// The days from 1970-01-01. A year is counted from March on, so that a leap day is its last, and from -400 on, so
+    /// that none is negative.
+    fn days(&self) -> Count {
+        let year = (count(self.year) + count(400) - count(self.month <= 2)).0;
+        let month = (count(self.month) + count(9)).0 % 12;
+        let leap_days = count(year / 4) - count(year / 100) + count(year / 400);
+        let day = count(days_to_month(month)) + count(self.day) - count(1);
+        count(year) * count(365) + leap_days + day - count(DAYS_TO_1970)
     }
 
     /// The date that is so many days from 1970-01-01, at 0 o'clock in UTC. `None` unless its year is 0 to 9999.
-    fn from_days(days: i64) -> Option<Time> {
-        let days = days + DAYS_TO_1970;
-        let (era, day) = (
-            days.div_euclid(DAYS_OF_400_YEARS),
-            days.rem_euclid(DAYS_OF_400_YEARS),
-        );
-        let year = (day - day / 1460 + day / 36_524 - day / 146_096) / 365;
-        let day = day - (365 * year + year / 4 - year / 100);
-        let month = (5 * day + 2) / 153;
-        let year = era * 400 + year + i64::from(month >= 10);
-        if !(0..=9999).contains(&year) {
+    fn from_days(days: Count) -> Option<Time> {
+        let days = (days + count(DAYS_TO_1970)).0;
+        let era = count(days.div_euclid(DAYS_OF_400_YEARS));
+        let day = days.rem_euclid(DAYS_OF_400_YEARS);
+        let leap_days = count(day / 1460) - count(day / 36_524) + count(day / 146_096);
+        let year = (count(day) - leap_days).0 / 365;
+        let leap_days = count(year / 4) - count(year / 100);
+        let day = count(day) - count(year) * count(365) - leap_days;
+        let month = (day * count(5) + count(2)).0 / 153;
+        let year = era * count(400) + count(year) + count(month >= 10) - count(400);
+        if !(0..=9999).contains(&year.0) {
             return None;
         }
         Some(Time {
-            year: year as u32,
-            month: ((month + 2) % 12 + 1) as u8,
-            day: (day - (153 * month + 2) / 5 + 1) as u8,
+            year: year.0 as u32,
+            month: ((count(month) + count(2)).0 % 12).saturating_add(1) as u8,
+            day: (day - count(days_to_month(month)) + count(1)).0 as u8,
             hour: 0,
             minute: 0,
             second: 0,
@@ -191,10 +207,11 @@ impl TryFrom<SystemTime> for Time {
     fn try_from(moment: SystemTime) -> Result<Time, Reason> {
         let nanoseconds = match moment.duration_since(SystemTime::UNIX_EPOCH) {
             Ok(after) => after.as_nanos() as i128,
-            Err(before) => -(before.duration().as_nanos() as i128),
+            Err(before) => (before.duration().as_nanos() as i128).wrapping_neg(),
         };
         let seconds = nanoseconds.div_euclid(1_000_000_000) as i64;
-        let date = Time::from_days(seconds.div_euclid(SECONDS_OF_A_DAY)).ok_or(Reason::INVALID_TIME)?;
+        let days = count(seconds.div_euclid(SECONDS_OF_A_DAY));
+        let date = Time::from_days(days).ok_or(Reason::INVALID_TIME)?;
         let clock = seconds.rem_euclid(SECONDS_OF_A_DAY);
         Ok(Time {
             hour: (clock / 3600) as u8,

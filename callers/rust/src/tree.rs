@@ -129,7 +129,7 @@ impl Rules {
             base: 0,
             rules: self,
         };
-        Ok((&input[found.length..], tree))
+        Ok((input.get(found.length..).unwrap_or_default(), tree))
     }
 
     fn list_in_vec(self, input: &[u8], elements: &mut Vec<Element>) -> Result<Found> {
@@ -142,7 +142,7 @@ impl Rules {
 /// first one needs no memory. No more than 65,536, which have 2.5 MiB: an element may be one long string.
 fn likely_elements(input: &[u8]) -> usize {
     let length = Rules::DER.first_length(input).unwrap_or(input.len());
-    (length / 3 + 2).min(1 << 16)
+    (length / 3).saturating_add(2).min(1 << 16)
 }
 
 /// An element of a tree.
@@ -171,13 +171,14 @@ pub struct Node<'t, 'a> {
 }
 
 impl<'t, 'a> Node<'t, 'a> {
-    fn element(&self) -> &'t Element {
-        &self.tree.elements[self.index]
+    fn element(&self) -> Element {
+        // Its index is that of an element.
+        self.tree.elements.get(self.index).copied().unwrap_or_default()
     }
 
     /// The element by itself, which outlives the tree.
     pub fn any(&self) -> Any<'a> {
-        Any::new(self.tree.input, *self.element(), self.tree.base, self.tree.rules)
+        Any::new(self.tree.input, self.element(), self.tree.base, self.tree.rules)
     }
 
     /// The elements that the content of a constructed element is (X.690 8.1.4). Of a primitive one none: see
@@ -198,7 +199,8 @@ impl<'t, 'a> Node<'t, 'a> {
     }
 
     fn inside(&self) -> Range<usize> {
-        self.index + 1..self.index + 1 + self.element().inside
+        let first = self.index.saturating_add(1);
+        first..first.saturating_add(self.element().inside)
     }
 
     /// Reads the one element that the content octets are, by the same rules: that of an OCTET STRING that holds an

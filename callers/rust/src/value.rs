@@ -154,7 +154,8 @@ impl<'a> BitString<'a> {
 
     /// How many bits there are.
     pub fn len(self) -> usize {
-        self.bytes.len() * 8 - usize::from(self.unused)
+        let bits = self.bytes.len().saturating_mul(8);
+        bits.saturating_sub(self.unused.into())
     }
 
     /// Whether there are no bits.
@@ -167,7 +168,8 @@ impl<'a> BitString<'a> {
         if index >= self.len() {
             return None;
         }
-        Some(self.bytes[index / 8] & (0x80 >> (index % 8)) != 0)
+        let octet = self.bytes.get(index / 8)?;
+        Some(octet.wrapping_shl((index % 8) as u32) & 0x80 != 0)
     }
 
     /// The bits, the first ones first.
@@ -212,12 +214,12 @@ impl Iterator for Bits<'_> {
 
     fn next(&mut self) -> Option<bool> {
         let bit = self.bits.bit(self.index)?;
-        self.index += 1;
+        self.index = self.index.saturating_add(1);
         Some(bit)
     }
 
     fn size_hint(&self) -> (usize, Option<usize>) {
-        let left = self.bits.len() - self.index;
+        let left = self.bits.len().saturating_sub(self.index);
         (left, Some(left))
     }
 }

@@ -217,7 +217,8 @@ impl<'b> Writer<'b> {
     }
 
     /// Writes the next element, which has to be primitive, with this tag in place of that of its type: an IMPLICIT tag.
-    /// [`tagged`](Writer::tagged) writes that of a SEQUENCE or SET.
+    /// [`tagged`](Writer::tagged) writes that of a SEQUENCE or SET. After an error the tag is still for the next element.
+    /// What isn't primitive drops it, and so do [`elements`](Writer::elements).
     ///
     /// ```
     /// use dumarewhi::{to_vec, Tag};

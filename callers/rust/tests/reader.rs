@@ -1,5 +1,5 @@
 //! Fields, one after the other.
-use dumarewhi::{Error, ErrorKind, Reader, Reason, Rules, Tag};
+use dumarewhi::{check_ber, Any, Error, ErrorKind, Reader, Reason, Rules, Tag, Tree};
 
 #[test]
 fn every_type() {
@@ -92,6 +92,52 @@ fn input_that_is_cut_is_incomplete() {
             .unwrap_err();
         assert!(error.is_incomplete(), "{end}: {error}");
     }
+}
+
+/// X.690 8.6.2, by either rules: at most seven bits are unused, and none of no octet.
+#[test]
+fn unused_bits() {
+    let read = |rules, input| Reader::with_rules(input, rules).bit_string();
+    for rules in [Rules::BER, Rules::DER] {
+        for (input, reason) in [
+            (&[3, 1, 1][..], Reason::UNUSED_BITS_NOT_ZERO),
+            (&[3, 1, 7], Reason::UNUSED_BITS_NOT_ZERO),
+            (&[3, 1, 8], Reason::INVALID_VALUE),
+            (&[3, 2, 8, 0], Reason::INVALID_VALUE),
+            (&[3, 2, 255, 0], Reason::INVALID_VALUE),
+        ] {
+            let error = Error::new(ErrorKind::Malformed(reason), 0);
+            assert_eq!(read(rules, input), Err(error), "{input:?}");
+        }
+        let none = read(rules, &[3, 1, 0]).unwrap();
+        assert_eq!((none.len(), none.bit(0), none.iter().next()), (0, None, None));
+        let one = read(rules, &[3, 2, 7, 0x80]).unwrap();
+        assert_eq!((one.len(), one.bit(0), one.bit(1)), (1, Some(true), None));
+        assert_eq!((one.iter().len(), one.iter().collect::<Vec<_>>()), (1, vec![true]));
+    }
+    let implicit = Reader::with_rules(&[0x83, 1, 1], Rules::BER)
+        .expect_implicit(Tag::context(3))
+        .bit_string();
+    let error = Error::new(ErrorKind::Malformed(Reason::UNUSED_BITS_NOT_ZERO), 0);
+    assert_eq!(implicit, Err(error));
+    let set = Reader::with_rules(&[3, 2, 7, 0x81], Rules::BER).bit_string();
+    assert_eq!(set.unwrap().len(), 1);
+}
+
+/// BER has times that no `Time` is, as an offset in hours alone (X.680 46.3), and texts that are none.
+#[test]
+fn times_without_a_value() {
+    let input = b"\x18\x1120200101000000+01";
+    assert_eq!(check_ber(input), Ok(1));
+    let value = Error::new(ErrorKind::Value(Reason::INVALID_TIME), 0);
+    assert_eq!(Any::from_ber(input).unwrap().as_time(), Err(value));
+    assert_eq!(Tree::parse_ber(input).unwrap().root().as_time(), Err(value));
+    let mut r = Reader::with_rules(input, Rules::BER);
+    assert_eq!(r.generalized_time(), Err(value));
+    assert_eq!(r.time(), Err(value));
+    let malformed = Error::new(ErrorKind::Malformed(Reason::INVALID_TIME), 0);
+    let mut r = Reader::with_rules(b"\x18\x1120200101000000+0x", Rules::BER);
+    assert_eq!(r.time(), Err(malformed));
 }
 
 /// What is in a tag isn't input that could still come.

@@ -225,6 +225,34 @@ fn refused_values() {
     assert!(matches!(error.kind(), ErrorKind::Other(_)));
 }
 
+/// An error leaves an implicit tag for the next element, and what isn't primitive drops it.
+#[test]
+fn implicit_tags_that_are_left() {
+    let octets = |put: &dyn Fn(&mut Writer<'_>)| {
+        to_vec(|w| {
+            put(w.implicit(Tag::context(2)));
+            w.null();
+            Ok(())
+        })
+        .unwrap()
+    };
+    assert_eq!(octets(&|w| assert!(w.ia5_string("é").is_err())), [0x82, 0]);
+    assert_eq!(octets(&|w| assert!(w.bmp_string("\u{1f600}").is_err())), [0x82, 0]);
+    assert_eq!(octets(&|w| w.sequence(|w| w.null())), [0x30, 2, 5, 0, 5, 0]);
+    assert_eq!(octets(&|w| w.set_of(|_| ())), [0x31, 0, 5, 0]);
+    assert_eq!(octets(&|w| w.octet_string_of(|_| ())), [4, 0, 5, 0]);
+    assert_eq!(octets(&|w| w.tagged(Tag::context(7), |_| ())), [0xa7, 0, 5, 0]);
+    assert_eq!(octets(&|w| w.elements(&[])), [5, 0]);
+    let closed = to_vec(|w| {
+        w.sequence(|w| {
+            w.implicit(Tag::context(2));
+        });
+        w.null();
+        Ok(())
+    });
+    assert_eq!(closed.unwrap(), [0x30, 0, 5, 0]);
+}
+
 /// A writer that takes another one's place in the middle of an element is no harm, and an error at the end.
 #[test]
 fn swapped_writers() {

@@ -38,3 +38,11 @@ fn texts_are_those_of_the_library() {
     }
     assert_eq!(format!("{}", Reason(1000)), "unknown error");
 }
+
+#[test]
+fn names_are_shown() {
+    for (name, reason, _) in NAMED {
+        assert_eq!(format!("{reason:?}"), *name);
+    }
+    assert_eq!(format!("{:?}", Reason(1000)), "Reason(1000)");
+}

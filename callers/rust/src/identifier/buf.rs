@@ -1,5 +1,5 @@
 //! Object identifiers with octets of their own.
-use super::{are_arcs, spelled, subidentifier, ObjectIdentifier};
+use super::{first_subidentifier, next_subidentifier, octet, octet_count, ObjectIdentifier};
 use crate::error::Reason;
 use alloc::vec::Vec;
 use core::cmp::Ordering;
@@ -26,13 +26,12 @@ impl ObjectIdentifierBuf {
         if arcs.len() < 2 {
             return Err(Reason::INVALID_LENGTH);
         }
-        if !are_arcs(arcs) {
-            return Err(Reason::WRONG_VALUE);
-        }
+        let mut next = Some(first_subidentifier(arcs).ok_or(Reason::WRONG_VALUE)?);
         let mut content = Vec::new();
-        for index in 1..arcs.len() {
-            let (digits, start) = spelled(subidentifier(arcs, index));
-            content.extend_from_slice(&digits[start..]);
+        while let Some((number, rest)) = next {
+            let following = (0..octet_count(number)).rev();
+            content.extend(following.map(|following| octet(number, following)));
+            next = next_subidentifier(rest);
         }
         Ok(ObjectIdentifierBuf(content))
     }

@@ -210,7 +210,7 @@ impl KeyUsage {
     }
 
     fn has(self, bit: u32) -> bool {
-        self.0 >> bit & 1 != 0
+        self.0.wrapping_shr(bit) & 1 != 0
     }
 }
 
