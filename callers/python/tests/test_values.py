@@ -20,6 +20,7 @@ from dumarewhi import (
     Incomplete,
     Node,
     ObjectIdentifier,
+    Reader,
     Rule,
     Tag,
     TagClass,
@@ -332,6 +333,24 @@ def test_bit_strings() -> None:
     for octets, unused in ((b"", 1), (b"a", 8), (b"a", -1)):
         with pytest.raises(ValueError):
             BitString(octets, unused)
+
+
+@pytest.mark.parametrize(
+    "octets, rule",
+    [
+        ("03 00", Rule.UNUSED_BITS_MISSING),
+        ("03 01 01", Rule.UNUSED_BITS_OF_NONE),
+        ("03 02 08 00", Rule.UNUSED_BITS_ABOVE_SEVEN),
+        ("03 02 ff 00", Rule.UNUSED_BITS_ABOVE_SEVEN),
+    ],
+)
+def test_unused_bits_that_there_cannot_be(octets: str, rule: Rule) -> None:
+    """X.690 8.6.2, by BER too."""
+    with pytest.raises(DerError) as caught:
+        Reader(octets_of(octets), rules="ber").bit_string()
+    assert (caught.value.rule, caught.value.offset) == (rule, 0)
+    with pytest.raises(DerError):
+        Reader(b"\x83" + octets_of(octets)[1:], rules="ber").implicit(3, Tag.BIT_STRING)
 
 
 def test_strings_in_parts() -> None:

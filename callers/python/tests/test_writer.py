@@ -1,6 +1,7 @@
 """What is written, and what is read of it again."""
 from __future__ import annotations
 
+import ctypes
 import datetime
 import random
 from typing import Callable
@@ -8,7 +9,7 @@ from typing import Callable
 import pytest
 from conftest import octets_of
 
-from dumarewhi import BitString, DerError, ObjectIdentifier, Reader, Tag, Writer, check_der, parse_der, to_der
+from dumarewhi import BitString, DerError, ObjectIdentifier, Reader, Rule, Tag, Writer, check_der, parse_der, to_der
 
 # The personnel record of X.690 A.3
 RECORD = bytes.fromhex(
@@ -157,6 +158,47 @@ def test_errors() -> None:
         with pytest.raises(ValueError):
             w.tagged(number)
     assert w.offset == 8
+
+
+@pytest.mark.parametrize(
+    "write",
+    [
+        lambda w: w.string(Tag.BMP_STRING, "\ud800"),  # half of a surrogate pair
+        lambda w: w.string(Tag.BMP_STRING, "\udfff"),
+        lambda w: w.string(Tag.BMP_STRING, "a\U0001d11e"),  # X.680 41.15: the Basic Multilingual Plane alone
+        lambda w: w.string(Tag.UNIVERSAL_STRING, "\ud800"),
+        lambda w: w.utf8_string("\ud800"),
+        lambda w: w.ia5_string("é"),
+        lambda w: w.utc_time(datetime.datetime(2050, 1, 1, tzinfo=datetime.timezone.utc)),
+    ],
+)
+def test_an_error_changes_nothing(write: Callable[[Writer], object]) -> None:
+    """The next element has the implicit tag that was given, and no other."""
+    w = Writer()
+    w.null()
+    with pytest.raises(DerError) as caught:
+        write(w)
+    assert caught.value.rule in (Rule.INVALID_CHARACTER, Rule.INVALID_TIME) and caught.value.offset == 2
+    w.null()
+    w.implicit(2)
+    with pytest.raises(DerError):
+        write(w)
+    w.null()
+    assert w.to_bytes() == octets_of("05 00 05 00 82 00")
+
+
+def test_a_value_of_another_type_changes_nothing() -> None:
+    w = Writer()
+    with pytest.raises((TypeError, ctypes.ArgumentError)):
+        w.enumerated(-1.5)  # type: ignore[arg-type]
+    w.null()
+    assert w.to_bytes() == octets_of("05 00")
+
+
+def test_last_characters() -> None:
+    assert written(lambda w: w.string(Tag.BMP_STRING, "\uffff")) == octets_of("1e 02 ff ff")
+    assert written(lambda w: w.string(Tag.UNIVERSAL_STRING, "\U0001d11e")) == octets_of("1c 04 00 01 d1 1e")
+    assert written(lambda w: w.string(Tag.BMP_STRING, "")) == octets_of("1e 00")
 
 
 def test_blocks() -> None:

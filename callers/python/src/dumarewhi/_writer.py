@@ -4,9 +4,10 @@ from __future__ import annotations
 import ctypes
 import datetime
 from types import TracebackType
-from typing import TYPE_CHECKING, Iterable, Optional, Type, Union
+from typing import TYPE_CHECKING, Callable, Iterable, Optional, Type, TypeVar, Union
 
 from . import _library
+from ._header import Rule
 from ._library import MarkStruct, TimeStruct, WriterStruct
 from ._tag import CLASS_SHIFT, NUMBER_MASK, AnyTag, Tag, TagClass, key_of
 from ._values import BitString, ObjectIdentifier
@@ -14,12 +15,15 @@ from ._values import BitString, ObjectIdentifier
 if TYPE_CHECKING:
     from _typeshed import ReadableBuffer
 
+T = TypeVar("T")
+
 # How many octets an element may have besides its content: 6 of its tag, 9 of its length.
 _HEADER = 16
 _FIRST_ROOM = 256
 
-# Types of text that are put as octets with the type's tag. `dm_put_text` has the others, which are UTF-8.
-_WIDE = {Tag.BMP_STRING: "utf-16-be", Tag.UNIVERSAL_STRING: "utf-32-be"}
+# Types of text that are put as octets with the type's tag: how, and the last character of the type. `dm_put_text` has
+# the others, which are UTF-8.
+_WIDE = {Tag.BMP_STRING: ("utf-16-be", "\uffff"), Tag.UNIVERSAL_STRING: ("utf-32-be", "\U0010ffff")}
 
 
 class Writer:
@@ -106,6 +110,7 @@ class Writer:
 
     def implicit(self, tag: AnyTag) -> Writer:
         """Gives the next element, which has to be primitive, this tag in place of that of its type. Returns the writer.
+        After an error the tag is still for the next element.
 
         >>> w = Writer()
         >>> w.implicit(2).ia5_string("a.b")  # dNSName [2] IMPLICIT IA5String
@@ -147,7 +152,7 @@ class Writer:
             self._reserve(9)
             _library.put_enumerated(self._at, value)
         else:
-            self._as(Tag.ENUMERATED).integer(value)
+            self._put_as(Tag.ENUMERATED, self.integer, value)
 
     def null(self) -> None:
         """Writes a NULL."""
@@ -200,11 +205,12 @@ class Writer:
             DerError: A character isn't in the set of the type, or the tag is of no such type.
         """
         if tag in _WIDE:
-            self._as(tag).octet_string(value.encode(_WIDE[tag]))
+            codec, last = _WIDE[tag]
+            self._put_as(tag, self.octet_string, self._encoded(value, codec, last))
             return
         if tag.tag_class != TagClass.UNIVERSAL:
             raise ValueError(f"{tag} is the tag of no character string")
-        content = value.encode()
+        content = self._encoded(value, "utf-8", "\U0010ffff")
         self._reserve(len(content))
         self._check(_library.put_text(self._at, tag.number, content, len(content)))
 
@@ -250,9 +256,27 @@ class Writer:
         mark = _library.open_element(self._at, key >> CLASS_SHIFT, constructed, key & NUMBER_MASK)
         return Block(self, mark, count, innermost)
 
-    def _as(self, tag: Tag) -> Writer:
-        """Gives the next element this tag, unless it has an implicit one."""
-        return self if self._state.implicit else self.implicit(tag)
+    def _put_as(self, tag: Tag, put: Callable[[T], None], value: T) -> None:
+        """Writes a value of the type with this tag by the call for another type. An implicit tag stays its own."""
+        state = self._state
+        if state.implicit:
+            put(value)
+            return
+        self.implicit(tag)
+        try:
+            put(value)
+        except BaseException:
+            state.implicit = state.number = 0
+            raise
+
+    def _encoded(self, text: str, codec: str, last: str) -> bytes:
+        """The octets of a text. An error if a character isn't in the set of the type, as half of a surrogate pair."""
+        try:
+            if max(text, default="") <= last:
+                return text.encode(codec)
+        except UnicodeEncodeError:
+            pass
+        raise _library.rule_error(Rule.INVALID_CHARACTER, self.offset)
 
     def _expect_no_tag(self) -> None:
         if self._state.implicit:
