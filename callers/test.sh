@@ -59,7 +59,12 @@ fi
 has nm "undefined symbols" && says "the archive needs no other library" \
     bash -c "! nm -u '$archive' | grep ' U ' | grep -vE ' (memcpy|memmove|memset)\$'"
 
-compile() { cc -std=c99 -Wall -Wextra -Werror -O2 "${@:3}" -Ic/include "c/$1.c" "$archive" -o "$room/$2"; }
+# compile NAME PROGRAM: a test of callers/c, or a program of callers/c/examples.
+compile() {
+    local source=c/$1.c
+    [ -f "$source" ] || source=c/examples/$1.c
+    cc -std=c99 -Wall -Wextra -Werror -O2 "${@:3}" -Ic/include "$source" "$archive" -o "$room/$2"
+}
 
 # Each size of a length is written, and openssl reads it.
 run_sized() {
@@ -160,20 +165,17 @@ run_pem() (
     "$room/pem" < bundle > blocks && cmp wanted blocks && echo "$(wc -l < blocks) blocks"
 )
 
-# A GetRequest for three objects, and the answer: the name, the time, and that there is no third.
-octets "30 45 02 01 01 04 06 70 75 62 6c 69 63 a0 38 02 04 71 68 2a 51 02 01 00 02 01 00 30 2a 30 0c 06 08 2b 06 01 02
-    01 01 01 00 05 00 30 0c 06 08 2b 06 01 02 01 01 03 00 05 00 30 0c 06 08 2b 06 01 02 01 01 09 00 05 00" > "$room/ask"
+# The answer to the GetRequest for three objects: the name, the time, and that there is no third.
 octets "30 5e 02 01 01 04 06 70 75 62 6c 69 63 a2 51 02 04 71 68 2a 51 02 01 00 02 01 00 30 43 30 23 06 08 2b 06 01 02
     01 01 01 00 04 17 61 6e 20 65 78 61 6d 70 6c 65 20 6f 66 20 64 75 6d 61 72 65 77 68 69 30 0e 06 08 2b 06 01 02 01
     01 03 00 43 02 10 68 30 0c 06 08 2b 06 01 02 01 01 09 00 80 00" > "$room/answer"
-run_reply() { "$1" < "$room/ask" > "$room/reply" && cmp "$room/reply" "$room/answer"; }
+run_reply() { "$1" < c/examples/request.snmp > "$room/reply" && cmp "$room/reply" "$room/answer"; }
 
 run_c() {
     for name in first tree certificate snmp count layout rows errors tables csr snmp_reply writer trees agreement \
         certificate_rows openssl_fields openssl_extensions fields private_key pem; do
         says "$name.c compiles" compile $name $name
     done
-    says "examples/certificate.c compiles" compile examples/certificate example
     says "the header is C99 and C++11" run_header
     says "stack.c compiles" compile stack stack -pthread
     shown=yes
@@ -214,10 +216,22 @@ version 1, community public: get-next 43 1.3.6.1.2.1.1.3.0" "$room/snmp"
     { head -c 3 "$room/messages"; sleep 0.2; tail -c +4 "$room/messages"; } | "$room/snmp" > "$room/out"
     says "SNMP that comes in pieces" grep -q "get-next 43" "$room/out"
     says "SNMP that is answered" run_reply "$room/snmp_reply"
+    # The version is [2] and no INTEGER; a community with a newline and an escape
+    octets "30 26 82 01 00 04 06 70 75 62 6c 69 63 a0 19 02 01 2a 02 01 00 02 01 00 30 0e 30 0c 06 08 2b 06 01 02 01 01
+        01 00 05 00" > "$room/in"
+    for name in snmp snmp_reply; do
+        prints "SNMP with a version of another class: $name.c" 1 "" "$room/$name"
+        says "$name.c tells the tag" grep -q ": at 2: unexpected class, found \[2\]$" "$room/errors"
+    done
+    octets "30 23 02 01 00 04 03 0a 1b 5c a0 19 02 01 2a 02 01 00 02 01 00 30 0e 30 0c 06 08 2b 06 01 02 01 01 01 00 05
+        00" > "$room/in"
+    prints "SNMP with a community that isn't a text" 0 \
+        'version 0, community \x0a\x1b\x5c: get 42 1.3.6.1.2.1.1.1.0' "$room/snmp"
     if has openssl "elements and requests that openssl reads"; then
         says "elements as openssl reads them" run_sized
         shown=yes says "random trees as openssl reads them" run_trees
-        prints "a certificate" 0 "$(example_certificate)" "$room/example" ../crates/der/data/certificate.der
+        says "a certificate of names that turn the text is made" make_hostile
+        prints_certificates "certificate.c" "$room/certificate"
         says "a request that openssl verifies" run_csr "$room/csr"
         says "extensions in the words of openssl" run_extensions
         shown=yes
@@ -263,24 +277,57 @@ run_readme() (
         env -u DUMAREWHI_LIB sh -ec "$command"
 )
 
-# What openssl says of the certificate, as the example x509.rs prints it.
+# What openssl says of a certificate in DER, as the examples in C and Rust print it.
 openssl_certificate() {
-    openssl x509 -inform DER -in ../crates/der/data/certificate.der -noout -issuer -dates -subject -nameopt RFC2253 \
-        -dateopt iso_8601 | sed 's/^\(subject\|issuer\)=/\1: /; s/^notBefore=\(.*\) /not before: \1T/
+    openssl x509 -inform DER -in "$1" -noout -issuer -dates -subject -nameopt RFC2253 -dateopt iso_8601 \
+        | sed 's/^\(subject\|issuer\)=/\1: /; s/^notBefore=\(.*\) /not before: \1T/
             s/^notAfter=\(.*\) /not after: \1T/'
 }
-run_readme_rust() {
-    run_readme cargo > "$room/fields" || return
-    diff <(openssl_certificate) <(grep -E '^(issuer|subject|not before|not after): ' "$room/fields")
+fields_of_certificate() { grep -E '^(issuer|subject|not before|not after): '; }
+run_readme_example() {
+    run_readme "$1" > "$room/fields" || return
+    diff <(openssl_certificate ../crates/der/data/certificate.der) <(fields_of_certificate < "$room/fields")
 }
 
-# What examples/certificate.c prints of a certificate, by openssl.
-example_certificate() {
-    local file=../crates/der/data/certificate.der
-    openssl x509 -inform DER -in $file -noout -subject -issuer -dates -nameopt RFC2253 -dateopt iso_8601 \
-        | sed 's/^subject=/subject: /; s/^issuer=/issuer: /; s/^notBefore=/from: /; s/^notAfter=/to: /'
-    openssl x509 -inform DER -in $file -noout -ext subjectAltName 2> /dev/null \
-        | grep -o 'DNS:[^,]*' | sed 's/^DNS:/name: /'
+# A certificate with a key of 2048 bits, whose common name has a newline and a mark that turns the direction of a text
+# (U+202E), and whose name of DNS has a newline; the same in PEM; and one whose serial number is [2].
+make_hostile() (
+    local at
+    printf '%s\n' '[req]' 'distinguished_name = name' 'x509_extensions = extensions' 'prompt = no' 'utf8 = yes' \
+        'string_mask = utf8only' '[name]' $'CN = a\\nsubject: b\xe2\x80\xaec' '[extensions]' \
+        'subjectAltName = ASN1:SEQUENCE:names' '[names]' 'host = IMPLICIT:2,IA5STRING:a\nDNS: b' > "$room/hostile.cnf"
+    openssl req -x509 -newkey rsa:2048 -nodes -keyout "$room/hostile.key" -days 30 -config "$room/hostile.cnf" \
+        -outform DER -out "$room/hostile.der" \
+        && openssl x509 -inform DER -in "$room/hostile.der" -out "$room/hostile.pem" \
+        && cp "$room/hostile.der" "$room/wrong.der" || return
+    at=$(openssl asn1parse -inform DER -in "$room/wrong.der" | sed -n 's/^ *\([0-9]*\):d=2 .*INTEGER.*/\1/p' | head -n 1)
+    printf '\x82' | dd of="$room/wrong.der" bs=1 seek="$at" conv=notrunc status=none
+)
+
+# prints_certificates NAME PROGRAM..: the program prints a certificate as openssl does, in DER and PEM, printable ASCII
+# alone, and refuses what is none.
+run_hostile_certificate() {
+    "$@" "$room/hostile.der" > "$room/fields" && "$@" "$room/hostile.pem" | cmp - "$room/fields" || return
+    diff <(openssl_certificate "$room/hostile.der") <(fields_of_certificate < "$room/fields") || return
+    grep -q '^subject: CN=a\\0Asubject: b\\E2\\80\\AEc$' "$room/fields" || return
+    openssl x509 -inform DER -in "$room/hostile.der" -noout -text | grep -q 'Public-Key: (2048 bit)' || return
+    grep -q '^key: 1.2.840.113549.1.1.1, 2048 bits$' "$room/fields" || return
+    [ "$(grep -c 'DNS:' "$room/fields")" = 1 ] && ! LC_ALL=C grep -q '[^ -~]' "$room/fields"
+}
+refuses() {
+    local told=$1
+    shift
+    ! "$@" > "$room/fields" 2> "$room/errors" && [ ! -s "$room/fields" ] && grep -q "$told" "$room/errors"
+}
+prints_certificates() {
+    local name=$1
+    shift
+    says "$name prints names that turn the text" run_hostile_certificate "$@"
+    says "$name refuses a serial number of another class" \
+        refuses 'serialNumber at [0-9]*: unexpected class, found \[2\]$' "$@" "$room/wrong.der"
+    says "$name refuses what is neither DER nor PEM" refuses 'neither DER nor PEM$' "$@" ../crates/der/data/request.snmp
+    says "$name refuses PEM without a certificate" refuses 'no block has the label CERTIFICATE$' "$@" "$room/hostile.key"
+    says "$name refuses a certificate that is cut short" refuses 'cut short' "$@" ../crates/der/data/cut.der
 }
 
 # The fields that openssl_fields.c prints are those that openssl prints. Names with types that have no short name in RFC
@@ -317,7 +364,7 @@ run_certificates() {
         said=$(openssl x509 -in "$name" -noout -serial -enddate 2> /dev/null) || continue
         sed '/-----END/q' "$name" | sed '/-----/d' | base64 -d > "$room/certificate.der"
         serial=$(echo "$said" | sed -n 's/serial=//p' | tr A-F a-f)
-        end=$(date -u -d "$(echo "$said" | sed -n 's/notAfter=//p')" "+%Y-%m-%d %H:%M:%S")
+        end=$(date -u -d "$(echo "$said" | sed -n 's/notAfter=//p')" "+%Y-%m-%dT%H:%M:%SZ")
         if "$room/certificate" < "$room/certificate.der" > "$room/fields" \
             && grep -qE "^serial: (00)?$serial$" "$room/fields" && grep -q "^not after: $end$" "$room/fields"; then
             read=$((read + 1))
@@ -455,9 +502,9 @@ int LLVMFuzzerTestOneInput(const uint8_t *input, size_t length) { return input =
         echo "left out: targets for libFuzzer (there is no clang with -fsanitize=fuzzer)"
     fi
     awk '/^```c$/ {on = 1; next} /^```$/ {on = 0} on' ../README.md > "$room/readme.c"
-    says "README has the lines of first.c" diff "$room/readme.c" c/first.c
+    says "README has the lines of first.c" diff "$room/readme.c" c/examples/first.c
     has openssl "the command of README for C" \
-        && prints "the command of README for C" 0 "$(example_certificate)" run_readme cc
+        && says "the command of README for C" run_readme_example cc
 fi
 
 # The numbers of errors in the header are those of the specification, where 0 is no error.
@@ -500,7 +547,25 @@ if [ -d rust ]; then
         else
             echo "left out: cargo clippy (there is no clippy)"
         fi
-        has openssl "the command of README for Rust" && says "the command of README for Rust" run_readme_rust
+        [ -f "$room/hostile.der" ] && prints_certificates "x509.rs" "$examples/x509"
+        if [ -f "$room/seeds/certificate.der" ]; then
+            # The first octet of an input says which readers are asked: each seed is there for each of them.
+            run_rust_target() {
+                local seed first
+                mkdir "$room/corpus_rust" || return
+                for seed in "$room"/seeds/*; do
+                    for first in 00 04 05 08 09 0a 0b 0c 0f 84 c1; do
+                        { octets "$first"; cat "$seed"; } > "$room/corpus_rust/${seed##*/}.$first"
+                    done
+                done
+                DUMAREWHI_LIB=$(dirname "$archive") CARGO_TARGET_DIR=$room/target_of_fuzz rust/fuzz/run \
+                    "$room/corpus_rust" -seed=1 -runs=200000 -reload=0 -max_len=4096 "-artifact_prefix=$room/rust."
+            }
+            says "the target of Rust for libFuzzer" run_rust_target
+        else
+            echo "left out: the target of Rust for libFuzzer (there is no clang with -fsanitize=fuzzer)"
+        fi
+        has openssl "the command of README for Rust" && says "the command of README for Rust" run_readme_example cargo
         # A project of its own, with the command that rust/README.md gives.
         if cargo add --help > /dev/null 2>&1; then
             add=$(sed -n 's|^\(cargo add .*\)$|\1|p' rust/README.md)

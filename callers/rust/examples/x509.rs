@@ -1,13 +1,15 @@
 //! Prints the fields of certificates (RFC 5280), in DER or PEM: `cargo run --features pem --example x509 FILE..`. With
 //! `--named TEXT`, of those alone whose subject has a commonName, or a name of DNS, that is the text.
-use dumarewhi::x509::{Certificate, Extension, GeneralName, GeneralNames, Value};
-use dumarewhi::{oid, pem, ObjectIdentifier};
+use dumarewhi::x509::{Certificate, Extension, GeneralName, GeneralNames, PublicKey, RsaPublicKey, Value};
+use dumarewhi::{check_der, oid, pem, ObjectIdentifier};
+use std::error::Error;
 use std::process::exit;
-use std::{env, fs, io};
+use std::{env, fs};
 
 const COMMON_NAME: ObjectIdentifier<'static> = oid!(2, 5, 4, 3);
+const RSA_ENCRYPTION: ObjectIdentifier<'static> = oid!(1, 2, 840, 113549, 1, 1, 1);
 
-fn main() -> io::Result<()> {
+fn main() {
     let mut words: Vec<_> = env::args().skip(1).collect();
     let named = match words.iter().position(|word| word == "--named") {
         Some(at) if at + 1 < words.len() => words.drain(at..at + 2).nth(1),
@@ -15,28 +17,41 @@ fn main() -> io::Result<()> {
     };
     let mut wrong = words.is_empty();
     for path in words {
-        for octets in encodings(fs::read(&path)?)? {
-            match Certificate::from_der(&octets) {
-                Ok(it) if named.as_ref().map_or(true, |name| has_name(&it, name)) => print(&it),
-                Ok(_) => {}
-                Err(error) => {
-                    eprintln!("{path}: {error}");
-                    wrong = true;
-                }
-            }
+        if let Err(error) = print_file(&path, named.as_deref()) {
+            eprintln!("{path}: {error}");
+            wrong = true;
         }
     }
     exit(wrong.into())
 }
 
-/// The octets of each certificate in PEM (RFC 7468), or all octets if there is no PEM.
-fn encodings(file: Vec<u8>) -> dumarewhi::Result<Vec<Vec<u8>>> {
-    let blocks = pem::blocks(&file).collect::<Result<Vec<_>, _>>()?;
-    if blocks.is_empty() {
+/// Prints the certificates of a file, to the first that isn't read.
+fn print_file(path: &str, named: Option<&str>) -> Result<(), Box<dyn Error>> {
+    for octets in encodings(fs::read(path)?)? {
+        let certificate = Certificate::from_der(&octets)?;
+        if named.map_or(true, |name| has_name(&certificate, name)) {
+            print(&certificate);
+        }
+    }
+    Ok(())
+}
+
+/// The octets of the certificate in DER that a file is, or of each one that it has in PEM (RFC 7468). DER is tried
+/// first, since a text in it may hold PEM.
+fn encodings(file: Vec<u8>) -> Result<Vec<Vec<u8>>, Box<dyn Error>> {
+    if check_der(&file).is_ok() {
         return Ok(vec![file]);
     }
+    let blocks = pem::blocks(&file).collect::<Result<Vec<_>, _>>()?;
+    let is_pem = !blocks.is_empty();
     let certificates = blocks.into_iter().filter(|it| it.label() == "CERTIFICATE");
-    Ok(certificates.map(pem::Block::into_octets).collect())
+    let certificates: Vec<_> = certificates.map(pem::Block::into_octets).collect();
+    match (is_pem, file.first()) {
+        (true, _) if certificates.is_empty() => Err("no block has the label CERTIFICATE".into()),
+        (true, _) => Ok(certificates),
+        (false, Some(0x30)) => Ok(vec![file]),
+        _ => Err("neither DER nor PEM".into()),
+    }
 }
 
 fn has_name(it: &Certificate<'_>, name: &str) -> bool {
@@ -59,11 +74,7 @@ fn print(it: &Certificate<'_>) {
     println!("not before: {}", it.not_before());
     println!("not after: {}", it.not_after());
     println!("subject: {}", it.subject());
-    println!(
-        "key: {}, {} bits",
-        it.public_key().algorithm().identifier(),
-        it.public_key().bits().len()
-    );
+    println!("key: {}, {}", it.public_key().algorithm().identifier(), size(&it.public_key()));
     for extension in it.extensions() {
         let critical = if extension.is_critical() { " critical" } else { "" };
         println!(
@@ -73,6 +84,21 @@ fn print(it: &Certificate<'_>) {
         );
     }
     println!("sha-256: {}", hex(&it.fingerprint()));
+}
+
+/// A key of RSA has as many bits as its modulus. Of another key the octets are counted.
+fn size(key: &PublicKey<'_>) -> String {
+    let octets = key.bits().raw_bytes();
+    match RsaPublicKey::from_der(octets) {
+        Ok(rsa) if key.algorithm().identifier() == RSA_ENCRYPTION => {
+            let modulus = rsa.modulus().as_bytes();
+            let first = modulus.iter().position(|octet| *octet != 0).unwrap_or(modulus.len());
+            let bits = 8 * (modulus.len() - first);
+            let unused = modulus.get(first).map_or(0, |octet| octet.leading_zeros() as usize);
+            format!("{} bits", bits - unused)
+        }
+        _ => format!("{} octets", octets.len()),
+    }
 }
 
 fn value(extension: &Extension<'_>) -> String {
@@ -99,14 +125,15 @@ fn general_names(names: GeneralNames<'_>) -> String {
         .join(", ")
 }
 
+/// Who made the certificate chose the texts of names, so they are escaped. The text of a `Name` has escapes.
 fn general_name(name: &GeneralName<'_>) -> String {
     if let Some(address) = name.ip_addr() {
         return format!("IP:{address}");
     }
     match name {
-        GeneralName::DnsName(text) => format!("DNS:{text}"),
-        GeneralName::Rfc822Name(text) => format!("email:{text}"),
-        GeneralName::Uri(text) => format!("URI:{text}"),
+        GeneralName::DnsName(text) => format!("DNS:{}", text.escape_default()),
+        GeneralName::Rfc822Name(text) => format!("email:{}", text.escape_default()),
+        GeneralName::Uri(text) => format!("URI:{}", text.escape_default()),
         GeneralName::DirectoryName(name) => format!("DirName:{name}"),
         GeneralName::RegisteredId(identifier) => format!("RID:{identifier}"),
         other => format!("{other:?}"),

@@ -5,7 +5,8 @@ use core::cmp::Ordering;
 use core::iter::FusedIterator;
 
 /// An INTEGER or an ENUMERATED: its content octets, in two's complement and the fewest (X.690 8.3). It sorts by its
-/// number.
+/// number. Of one that a [`Reader`](crate::Reader) read by BER the octets may be none, or more than the fewest: then its
+/// place in the order is unspecified.
 ///
 /// ```
 /// use dumarewhi::{Any, Integer};

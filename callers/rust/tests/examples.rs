@@ -122,54 +122,6 @@ fn count_counts_elements() {
     }
 }
 
-/// A certificate that openssl makes, with these fields.
-#[test]
-fn certificate_prints_fields() {
-    let key = env::temp_dir().join(format!("dumarewhi-key-{}", std::process::id()));
-    let mut openssl = Command::new("openssl");
-    openssl.args([
-        "req",
-        "-x509",
-        "-nodes",
-        "-newkey",
-        "ed25519",
-        "-outform",
-        "DER",
-        "-set_serial",
-        "258",
-    ]);
-    openssl.args([
-        "-subj",
-        "/C=NZ/CN=example.org",
-        "-addext",
-        "subjectAltName=DNS:example.org",
-        "-keyout",
-    ]);
-    let made = openssl.arg(&key).output();
-    let _ = std::fs::remove_file(&key);
-    let made = match made {
-        Ok(made) if made.status.success() => made.stdout,
-        _ => return println!("left out: openssl makes no certificate"),
-    };
-    if let Some(output) = run("certificate", &made) {
-        let text = String::from_utf8(output.stdout).unwrap();
-        let expected = [
-            "version    3",
-            "serial     0102",
-            "issuer     C=NZ, CN=example.org",
-            "subject    C=NZ, CN=example.org",
-            "key        1.3.101.112",
-            "extension  2.5.29.17, 15 octets",
-            "extension  2.5.29.19 critical, 5 octets",
-            "signature  1.3.101.112, 64 octets",
-        ];
-        expected
-            .iter()
-            .for_each(|line| assert!(text.lines().any(|it| it == *line), "{line} in {text}"));
-        assert_eq!(text.matches("Z\n").count(), 2);
-    }
-}
-
 /// A request for sysDescr.0 has this answer.
 #[test]
 fn snmp_reply_answers() {

@@ -26,22 +26,32 @@ static uint8_t *read_file(const char *name, size_t *length) {
 
 static const char *const classes[] = {"universal", "application", "context", "private"};
 
+/* Who made the file chose its texts: what isn't printable ASCII is printed as \xNN. */
+static void print_text(const uint8_t *text, size_t length) {
+    for (size_t i = 0; i < length; i++) {
+        if (text[i] >= 0x20 && text[i] < 0x7f && text[i] != '\\' && text[i] != '"') putchar(text[i]);
+        else printf("\\x%02x", text[i]);
+    }
+}
+
 /* The value of some universal types, and the octets of every other primitive element. */
 static void print_content(const uint8_t *content, size_t length, const dm_element *element) {
+    int is_universal = element->tag_class == DM_UNIVERSAL;
     int64_t number;
     uint8_t truth, text[128];
     size_t needed;
-    if (element->tag_class == DM_UNIVERSAL && element->number == 1 && dm_read_bool(content, length, &truth) == 0) {
+    if (is_universal && element->number == DM_BOOLEAN && dm_read_bool(content, length, &truth) == 0) {
         printf(" %s", truth ? "true" : "false");
-    } else if (element->tag_class == DM_UNIVERSAL && element->number == 2
-               && dm_read_i64(content, length, &number) == 0) {
+    } else if (is_universal && element->number == DM_INTEGER && dm_read_i64(content, length, &number) == 0) {
         printf(" %lld", (long long)number);
-    } else if (element->tag_class == DM_UNIVERSAL && element->number == 6
+    } else if (is_universal && element->number == DM_OBJECT_IDENTIFIER
                && dm_read_oid(content, length, text, sizeof text, &needed) == 0 && needed <= sizeof text) {
         printf(" %.*s", (int)needed, (const char *)text);
-    } else if (element->tag_class == DM_UNIVERSAL && element->number != 30
+    } else if (is_universal && element->number != DM_BMP_STRING
                && dm_check_text(element->number, content, length) == 0) {
-        printf(" \"%.*s\"", (int)length, (const char *)content);
+        printf(" \"");
+        print_text(content, length);
+        printf("\"");
     } else {
         for (size_t i = 0; i < length && i < 16; i++) printf(" %02x", content[i]);
         if (length > 16) printf(" .. (%zu octets)", length);

@@ -30,7 +30,7 @@ static uint32_t put_name(dm_writer *w, const char *text) {
     dm_mark set = dm_open_set(w);
     dm_mark attribute = dm_open_sequence(w);
     dm_put_arcs(w, common_name, COUNT(common_name));
-    uint32_t error = put_text(w, 12, text);
+    uint32_t error = put_text(w, DM_UTF8_STRING, text);
     dm_close(w, attribute);
     dm_close(w, set);
     dm_close(w, name);
@@ -45,8 +45,8 @@ static uint32_t put_extensions(dm_writer *w, const char *host) {
     dm_put_arcs(w, subject_alt_name, COUNT(subject_alt_name));
     dm_mark value = dm_open_octet_string(w);
     dm_mark names = dm_open_sequence(w);
-    dm_implicit(w, DM_CONTEXT_SPECIFIC, 2);
-    uint32_t error = put_text(w, 22, host);
+    dm_implicit(w, DM_CONTEXT_SPECIFIC, DM_DNS_NAME);
+    uint32_t error = put_text(w, DM_IA5_STRING, host);
     dm_close(w, names);
     dm_close(w, value);
     dm_close(w, extension);
