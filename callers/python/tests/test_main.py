@@ -2,12 +2,14 @@
 from __future__ import annotations
 
 import base64
+import re
 import subprocess
 import sys
 from pathlib import Path
+from typing import Tuple
 
 import pytest
-from conftest import DATA, octets_of, openssl
+from conftest import DATA, REPOSITORY, octets_of, openssl
 
 from dumarewhi import Rule, __version__, rule_text
 
@@ -111,6 +113,64 @@ def test_certificate() -> None:
     assert "2.5.29.17: DNS:example.org, IP:192.0.2.1" in extensions
     text = b"-----BEGIN CERTIFICATE-----\n" + base64.encodebytes(file.read_bytes()) + b"-----END CERTIFICATE-----\n"
     assert run("certificate", "-", octets=text).stdout == shown.stdout
+
+
+@pytest.fixture(scope="module")
+def hostile(tmp_path_factory: pytest.TempPathFactory) -> Path:
+    """A folder with a certificate with a key of 2048 bits, whose common name has a newline and a mark that turns the
+    direction of a text (U+202E), and whose name of DNS has a newline; the same in PEM; and one with the serial number
+    [2]."""
+    folder = tmp_path_factory.mktemp("hostile")
+    lines = [
+        *("[req]", "distinguished_name = name", "x509_extensions = extensions", "prompt = no", "utf8 = yes"),
+        *("string_mask = utf8only", "[name]", "CN = a\\nsubject: b\u202ec", "[extensions]"),
+        *("subjectAltName = ASN1:SEQUENCE:names", "[names]", "host = IMPLICIT:2,IA5STRING:a\\nDNS: b"),
+    ]
+    (folder / "conf").write_text("\n".join(lines), encoding="utf-8")
+    words = ("-newkey", "rsa:2048", "-nodes", "-days", "30", "-set_serial", "258", "-keyout", folder / "key.pem")
+    der = openssl("req", "-x509", *words, "-config", folder / "conf", "-outform", "DER")
+    assert der.count(octets_of("02 02 01 02")) == 1
+    (folder / "der").write_bytes(der)
+    (folder / "pem").write_bytes(openssl("x509", "-inform", "DER", octets=der))
+    (folder / "wrong").write_bytes(der.replace(octets_of("02 02 01 02"), octets_of("82 02 01 02")))
+    return folder
+
+
+EXAMPLE = REPOSITORY / "tools/release-parts/examples/certificate.py"
+
+
+@pytest.mark.parametrize("program", [("-m", "dumarewhi", "certificate"), (str(EXAMPLE),)])
+def test_names_that_turn_the_text(hostile: Path, program: Tuple[str, ...]) -> None:
+    """Each name stands in one line of printable ASCII, as openssl prints it."""
+
+    def show(name: str) -> "subprocess.CompletedProcess[bytes]":
+        return subprocess.run([sys.executable, *program, str(hostile / name)], capture_output=True)
+
+    said = openssl("x509", "-inform", "DER", "-in", hostile / "der", "-noout", "-subject", "-nameopt", "RFC2253")
+    shown = show("der")
+    lines = shown.stdout.decode("ascii").split("\n")
+    assert (shown.returncode, shown.stderr) == (0, b"")
+    assert [line for line in lines if "subject" in line and "issuer" not in line] == [
+        said.decode().strip().replace("subject=", "subject: ")
+    ]
+    assert all(line.isprintable() for line in lines)
+    assert show("pem").stdout == shown.stdout
+    told = {"wrong": rb"serialNumber at \d+: unexpected class, found \[2\]\n$", "key.pem": b"CERTIFICATE|PEM"}
+    for name, text in told.items():
+        refused = show(name)
+        assert (refused.returncode, refused.stdout) == (1, b"") and re.search(text, refused.stderr)
+
+
+def test_names_of_dns_and_keys(hostile: Path) -> None:
+    lines = run("certificate", str(hostile / "der")).stdout.decode().splitlines()
+    assert "Public-Key: (2048 bit)" in openssl("x509", "-inform", "DER", "-in", hostile / "der", "-text").decode()
+    assert "key: 1.2.840.113549.1.1.1, 2048 bits" in lines
+    assert r"extension: 2.5.29.17: DNS:a\nDNS: b" in lines
+
+
+def test_neither_der_nor_pem() -> None:
+    shown = run("certificate", "-", octets=b"hello world")
+    assert (shown.stdout, shown.stderr, shown.returncode) == (b"", b"-: neither DER nor PEM\n", 1)
 
 
 def test_no_certificate(tmp_path: Path) -> None:

@@ -6,9 +6,9 @@ import datetime
 import signal
 import sys
 from pathlib import Path
-from typing import Callable, Dict, Iterator, List, NamedTuple, Optional
+from typing import Callable, Dict, Iterator, List, NamedTuple, Optional, Set
 
-from . import BitString, DerError, Node, ObjectIdentifier, Reader, Rules, __version__, pem
+from . import BitString, DerError, Node, ObjectIdentifier, Reader, Rules, __version__, check_der, pem
 from ._certificate_text import lines
 
 
@@ -18,9 +18,11 @@ def main(words: Optional[List[str]] = None) -> int:
     failed = False
     for name in options.files:
         try:
-            for octets in _encodings(sys.stdin.buffer.read() if name == "-" else Path(name).read_bytes()):
+            data = sys.stdin.buffer.read() if name == "-" else Path(name).read_bytes()
+            certificates = options.command == _CERTIFICATE
+            for octets in _certificates(data) if certificates else _encodings(data):
                 _run(options, octets)
-        except (DerError, OSError) as error:
+        except (OSError, ValueError) as error:
             print(f"{name}: {error}", file=sys.stderr)
             failed = True
     return 1 if failed else 0
@@ -57,6 +59,33 @@ def _encodings(data: bytes) -> Iterator[bytes]:
         yield block.octets
     if not has_blocks:
         yield data
+
+
+def _certificates(data: bytes) -> Iterator[bytes]:
+    """The octets of the certificate in DER that a file is, or of each one that it has in PEM. DER is tried first, since
+    a text in it may hold PEM."""
+    if _is_der(data):
+        yield data
+        return
+    labels: Set[str] = set()
+    for block in pem.blocks(data):
+        labels.add(block.label)
+        if block.label == "CERTIFICATE":
+            yield block.octets
+    if labels and "CERTIFICATE" not in labels:
+        raise ValueError("no block has the label CERTIFICATE")
+    if not labels:
+        if data[:1] != b"\x30":
+            raise ValueError("neither DER nor PEM")
+        yield data
+
+
+def _is_der(data: bytes) -> bool:
+    try:
+        check_der(data)
+    except DerError:
+        return False
+    return True
 
 
 def _check(node: Node) -> None:

@@ -14,7 +14,11 @@ from .x509 import (
     GeneralName,
     GeneralNameKind,
     KeyUsage,
+    PublicKey,
+    RsaPublicKey,
 )
+
+_RSA_ENCRYPTION = "1.2.840.113549.1.1.1"
 
 # The names of the bits (RFC 5280 4.2.1.3), from the first one on.
 _USAGES = (
@@ -49,11 +53,22 @@ def lines(octets: bytes) -> Iterator[str]:
     yield f"not before: {it.not_before:%Y-%m-%dT%H:%M:%SZ}"
     yield f"not after: {it.not_after:%Y-%m-%dT%H:%M:%SZ}"
     yield f"subject: {it.subject}"
-    yield f"key: {it.public_key.algorithm.identifier}, {len(it.public_key.bits)} bits"
+    yield f"key: {it.public_key.algorithm.identifier}, {_size(it.public_key)}"
     for extension in it.extensions:
         critical = " critical" if extension.critical else ""
         yield f"extension: {extension.identifier}{critical}: {_extension(extension)}"
     yield f"sha-256: {it.fingerprint.hex()}"
+
+
+def _size(key: PublicKey) -> str:
+    """A key of RSA has as many bits as its modulus. Of another key the octets are counted."""
+    octets = bytes(key.bits)
+    if str(key.algorithm.identifier) == _RSA_ENCRYPTION:
+        try:
+            return f"{RsaPublicKey.from_der(octets).modulus.bit_length()} bits"
+        except DerError:
+            pass
+    return f"{len(octets)} octets"
 
 
 def _extension(extension: Extension) -> str:
@@ -83,4 +98,6 @@ def _item(item: Union[GeneralName, ObjectIdentifier]) -> str:
     if isinstance(item, ObjectIdentifier):
         return str(item)
     value = item.value.hex() if isinstance(item.value, bytes) else str(item.value)
-    return f"{_KINDS.get(item.kind, item.kind.name)}:{value}"
+    # Who made the certificate chose the texts of names. The text of a Name has escapes already.
+    text = value.encode("unicode_escape").decode() if isinstance(item.value, str) else value
+    return f"{_KINDS.get(item.kind, item.kind.name)}:{text}"
