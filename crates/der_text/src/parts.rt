@@ -48,11 +48,13 @@ fn write_part<'a>(out: &mut Vec<u8>, octets: &'a [u8], text: bool) -> Result<&'a
     ensures prints { IfOk result (λ rest. Prints out.old.items out.new.items octets.now rest.now) }
     ensures fewer { IfOk result (λ rest. length rest.now < length octets.now) }
 {
-    let plain = plain_length(octets);
-    if text && plain > 0 {
-        let (part, rest) = octets.split_at(plain);
-        write_quoted(out, part)?;
-        return Ok(rest);
+    if text {
+        let plain = plain_length(octets);
+        if plain > 0 {
+            let (part, rest) = octets.split_at(plain);
+            write_quoted(out, part)?;
+            return Ok(rest);
+        }
     }
     let (part, rest) = octets.split_at(part_length(octets, text));
     write_hexadecimal(out, part)?;
@@ -68,7 +70,7 @@ fn part_length(octets: &[u8], text: bool) -> usize
 {
     let most = octets.len().min(MANY);
     if text {
-        octets
+        octets[..most]
             .iter()
             .take_while(|octet| !is_plain(**octet))
             .count()
