@@ -42,10 +42,14 @@ def write_files(folder, files):
         at.chmod(file.mode)
 
 
+def sum_line(path, octets):
+    """The sum of a file, as sha256sum prints it."""
+    return f"{hashlib.sha256(octets).hexdigest()}  {path}"
+
+
 def sums_of(files):
-    """A line for each file that is no link, as sha256sum prints it."""
-    sums = [(hashlib.sha256(it.octets).hexdigest(), path) for path, it in sorted(files.items()) if not it.target]
-    return "\n".join(f"{found}  {path}" for found, path in sums)
+    """A line for each file that is no link."""
+    return "\n".join(sum_line(path, it.octets) for path, it in sorted(files.items()) if not it.target)
 
 
 AR_MAGIC = b"!<arch>\n"

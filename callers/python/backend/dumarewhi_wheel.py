@@ -21,9 +21,8 @@ CALLERS = PACKAGE.parent
 SOURCES = PACKAGE / "src" / "dumarewhi"
 HEADER = CALLERS / "c" / "include" / "dumarewhi.h"
 ARCHIVE = "libdumarewhi_c.a"
-PLATFORM = "py3-none-linux_x86_64"
-
-WHEEL = f"Wheel-Version: 1.0\nGenerator: dumarewhi\nRoot-Is-Purelib: false\nTag: {PLATFORM}\n"
+# Sections of README for those who have the repository
+OF_REPOSITORY = ("Install it", "Test it")
 
 # The calls of the header are exported, and nothing else.
 EXPORTS = "{ global: dm_*; local: *; };\n"
@@ -34,14 +33,17 @@ def build_wheel(
 ) -> str:
     """The hook of PEP 517: builds the wheel in a folder, and returns its name."""
     version = _version()
-    wheel = f"dumarewhi-{version}-{PLATFORM}.whl"
+    library = _shared_library()
+    tag = _tag(library)
+    wheel = f"dumarewhi-{version}-{tag}.whl"
     info = f"dumarewhi-{version}.dist-info"
     files = {f"dumarewhi/{path.name}": path.read_bytes() for path in sorted(SOURCES.glob("*.py"))}
     files["dumarewhi/py.typed"] = (SOURCES / "py.typed").read_bytes()
     files["dumarewhi/_header.py"] = module_of(HEADER.read_text()).encode()
-    files["dumarewhi/libdumarewhi.so"] = _shared_library()
+    files["dumarewhi/libdumarewhi.so"] = library
     files[f"{info}/METADATA"] = _metadata(version).encode()
-    files[f"{info}/WHEEL"] = WHEEL.encode()
+    lines = ["Wheel-Version: 1.0", "Generator: dumarewhi", "Root-Is-Purelib: false", f"Tag: {tag}", ""]
+    files[f"{info}/WHEEL"] = "\n".join(lines).encode()
     record = f"{info}/RECORD"
     files[record] = "".join([*_record(files), f"{record},,\n"]).encode()
     _write(Path(wheel_directory) / wheel, files)
@@ -113,9 +115,25 @@ def _metadata(version: str) -> str:
         *(f"Classifier: {classifier}" for classifier in texts("classifiers")),
         "Description-Content-Type: text/markdown",
         "",
-        (PACKAGE / "README.md").read_text(),
+        _description(),
     ]
     return "\n".join(lines)
+
+
+def _description() -> str:
+    """README for those who have the wheel."""
+    head, *sections = (PACKAGE / "README.md").read_text().split("\n## ")
+    return "\n## ".join([head, *(it for it in sections if it.partition("\n")[0] not in OF_REPOSITORY)])
+
+
+def _tag(library: bytes) -> str:
+    """The tag of the wheel (PEP 600): the library needs no other than glibc, at least of the version of its newest
+    symbol."""
+    found = [tuple(map(int, it.split(b"."))) for it in re.findall(rb"\0GLIBC_(\d+\.\d+)(?=[.\0])", library)]
+    if not found:
+        return "py3-none-linux_x86_64"
+    major, minor = max(found)
+    return f"py3-none-manylinux_{major}_{minor}_x86_64"
 
 
 def _shared_library() -> bytes:
