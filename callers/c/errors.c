@@ -94,7 +94,7 @@ static const struct {
     {DM_ERROR_TIME_WITH_FRACTION, "a time has a fraction of a second"},
     {DM_ERROR_UNIQUE_ID_IN_VERSION_1, "a unique identifier in version 1"},
     {DM_ERROR_EXTENSIONS_BEFORE_VERSION_3, "extensions before version 3"},
-    {DM_ERROR_EXTENSION_REPEATED, "an extension is repeated"},
+    {DM_ERROR_EXTENSION_REPEATED, "an extension is repeated, or there are more than 512"},
     {DM_ERROR_SUBJECT_WITHOUT_NAME, "the subject has no name"},
     {DM_ERROR_VALUE_NOT_DER, "a value of any type is not DER"},
     {DM_ERROR_PEM_NO_BLOCK, "no line -----BEGIN ..-----"},

@@ -208,7 +208,7 @@ enum dm_error {
     DM_ERROR_TIME_WITH_FRACTION = 134, /* 4.1.2.5.2 */
     DM_ERROR_UNIQUE_ID_IN_VERSION_1 = 135, /* 4.1.2.8 */
     DM_ERROR_EXTENSIONS_BEFORE_VERSION_3 = 136, /* 4.1.2.9 */
-    DM_ERROR_EXTENSION_REPEATED = 137, /* 4.2 */
+    DM_ERROR_EXTENSION_REPEATED = 137, /* 4.2, or more than 512 extensions (B) */
     DM_ERROR_SUBJECT_WITHOUT_NAME = 138, /* 4.1.2.6, 4.2.1.6 */
     DM_ERROR_VALUE_NOT_DER = 139, /* X.690 10 */
     /* of dm_next_pem (RFC 7468 2, 3) */
@@ -313,7 +313,7 @@ static inline const char *dm_error_string(uint32_t error) {
     case DM_ERROR_TIME_WITH_FRACTION: return "a time has a fraction of a second";
     case DM_ERROR_UNIQUE_ID_IN_VERSION_1: return "a unique identifier in version 1";
     case DM_ERROR_EXTENSIONS_BEFORE_VERSION_3: return "extensions before version 3";
-    case DM_ERROR_EXTENSION_REPEATED: return "an extension is repeated";
+    case DM_ERROR_EXTENSION_REPEATED: return "an extension is repeated, or there are more than 512";
     case DM_ERROR_SUBJECT_WITHOUT_NAME: return "the subject has no name";
     case DM_ERROR_VALUE_NOT_DER: return "a value of any type is not DER";
     case DM_ERROR_PEM_NO_BLOCK: return "no line -----BEGIN ..-----";
@@ -632,8 +632,7 @@ typedef struct dm_certificate {
 uint32_t dm_read_certificate(const uint8_t *input, size_t length, dm_certificate *certificate, dm_fault *fault);
 
 /* Reads one that keeps the rules of the errors 128 to 139 too. The fault of a broken rule is the first in that order,
- * with DM_FIELD_CERTIFICATE and offset 0. DM_ERROR_EXTENSION_REPEATED compares each extension with all that follow
- * it, so the time grows with the square of their number. */
+ * with DM_FIELD_CERTIFICATE and offset 0. At most 512 extensions are compared: more are DM_ERROR_EXTENSION_REPEATED. */
 uint32_t dm_read_strict_certificate(const uint8_t *input, size_t length, dm_certificate *certificate, dm_fault *fault);
 
 /* Names (4.1.2.4): the next relative name of a name, as its attributes, and the next attribute of a relative name. */

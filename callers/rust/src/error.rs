@@ -343,7 +343,7 @@ reasons! {
     TIME_WITH_FRACTION = 134, "a time has a fraction of a second";
     UNIQUE_ID_IN_VERSION_1 = 135, "a unique identifier in version 1";
     EXTENSIONS_BEFORE_VERSION_3 = 136, "extensions before version 3";
-    EXTENSION_REPEATED = 137, "an extension is repeated";
+    EXTENSION_REPEATED = 137, "an extension is repeated, or there are more than 512";
     SUBJECT_WITHOUT_NAME = 138, "the subject has no name";
     VALUE_NOT_DER = 139, "a value of any type is not DER";
     PEM_NO_BLOCK = 192, "no line -----BEGIN ..-----";

@@ -293,7 +293,7 @@ const RULES: [&str; 12] = [
     "a time has a fraction of a second",
     "a unique identifier in version 1",
     "extensions before version 3",
-    "an extension is repeated",
+    "an extension is repeated, or there are more than 512",
     "the subject has no name",
     "a value of any type is not DER",
 ];

@@ -8,3 +8,4 @@ pub mod VersionLaws
 pub mod RuleLaws
 pub mod WalkLaws
 pub mod SignedLaws
+pub mod RepetitionLaws

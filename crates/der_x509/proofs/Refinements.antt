@@ -226,7 +226,9 @@ order_is_of_attributes i c s =
     (either_of a.0 b.0, either_of a.1 b.1)
 
 pub repetition_is_of_identifiers : RepetitionIsOfIdentifiers
-repetition_is_of_identifiers i c s = repeated c.tbs_certificate.extensions (lists_of i c s).extensions
+repetition_is_of_identifiers i c s =
+    let r = repeated c.tbs_certificate.extensions (lists_of i c s).extensions in
+    (either_of (λ m. m) r.0, either_of (λ m. m) r.1)
 
 pub values_are_of_attributes : ValuesAreOfAttributes
 values_are_of_attributes i w rest s = values_of_names w (names_of i w rest s)

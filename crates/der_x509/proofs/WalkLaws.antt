@@ -1,18 +1,26 @@
 -- Walks over the values of a format that octets begin with, one after another.
-use Rattle.std.proofs.Common.{◌≡◌, ℕ, Bool, true, false, nat_eq, List, ◌++◌, length, take, drop, IsTrue, refl, sym, ap, subst, ◌∙◌, append_assoc}
+use Rattle.std.proofs.Common.{ℕ, ◌⊎◌, Bool, true, false, List, IsTrue, refl, sym, subst, inl, inr}
 use Rattle.std.specs.Prelude.{◌↔◌, not}
-use Rattle.std.specs.List.{starts_with}
-use Rattle.std.specs.Cmp.Lexicographic.{same_text, other_text}
-use Rattle.std.proofs.Math.Seq.{take-append_seam}
 use Rattle.std.proofs.lemmas.Bool.{false≢true}
-use Rattle.std.proofs.lemmas.List.{append_cancel_right, take-append-drop}
-use Rattle.der_base.specs.declared.header.Class.TheVariants.{Universal}
-use Rattle.der_base.specs.Octets.{identifier, shortest_length}
 use Rattle.der_base.specs.SetOfOrder.{Descends}
 use Rattle.der_x509.specs.Formats.{Format, sequence, spells, with_octets}
 use Rattle.der_x509.specs.Lists.{BeginsWithNone, Somewhere, here, later}
-use Rattle.der_x509.specs.Rules.{DescendsNext, HaveOneIdentifier, IsDer, ValueBreaksDer, leading_identifier}
+use Rattle.der_x509.specs.Rules.{DescendsNext, IsDer, ValueBreaksDer, leading_identifier}
 use Rattle.der_x509.proofs.FormatLaws.{IsExact, shows_one}
+
+-- something is somewhere in what octets begin with, or further on
+pub ahead : {E V : Type 0} {f : Format E V} {P : V → List ℕ → Type 0} (x : IsExact f) (v : V) {left rest : List ℕ} → spells f left v rest → Somewhere f P left ↔ (P v rest ⊎ Somewhere f P rest)
+ahead {f = f} {P = P} x v {left = left} {rest = rest} b = (on, back)
+  where
+    on : Somewhere f P left → P v rest ⊎ Somewhere f P rest
+    on (here w s p) =
+        let e = (shows_one f x).one_value left v w rest _ b s in
+        inl (subst (λ z. P z rest) (sym e.0) (subst (λ z. P w z) (sym e.1) p))
+    on (later w s p) = let e = (shows_one f x).one_value left v w rest _ b s in inr (subst (λ z. Somewhere f P z) (sym e.1) p)
+
+    back : P v rest ⊎ Somewhere f P rest → Somewhere f P left
+    back (inl p) = here v b p
+    back (inr s) = later v b s
 
 -- a fact is one of what is left, too
 pub record IsStill {E V : Type 0} (f : Format E V) (P : V → List ℕ → Type 0) (i left : List ℕ) : Type 0 where
@@ -25,10 +33,7 @@ still_start = record { on = λ s. s; back = λ s. s }
 module _ {E V : Type 0} {f : Format E V} {P : V → List ℕ → Type 0} (x : IsExact f) (v : V) {left rest : List ℕ} (b : spells f left v rest) where
   -- it is where octets begin, or further on
   further : ¬ P v rest → Somewhere f P left → Somewhere f P rest
-  further n (here w s p) =
-      let e = (shows_one f x).one_value left v w rest _ b s in
-      absurd (n (subst (λ z. P z rest) (sym e.0) (subst (λ z. P w z) (sym e.1) p)))
-  further n (later w s p) = let e = (shows_one f x).one_value left v w rest _ b s in subst (λ z. Somewhere f P z) (sym e.1) p
+  further n s = elim ((ahead x v b).0 s) [ inl p ↦ absurd (n p) | inr t ↦ t ]
 
   pub still_on : {i : List ℕ} → IsStill f P i left → ¬ P v rest → IsStill f P i rest
   still_on t n = record { on = λ s. further n (t.on s); back = λ s. t.back (later v b s) }
@@ -36,7 +41,7 @@ module _ {E V : Type 0} {f : Format E V} {P : V → List ℕ → Type 0} (x : Is
   pub found_here : {i : List ℕ} → IsStill f P i left → P v rest → IsTrue true ↔ Somewhere f P i
   found_here t p = (λ h. t.back (here v b p), λ h. refl)
 
-nowhere : {E V : Type 0} {f : Format E V} {P : V → List ℕ → Type 0} {left : List ℕ} → BeginsWithNone f left → Somewhere f P left → ⊥
+pub nowhere : {E V : Type 0} {f : Format E V} {P : V → List ℕ → Type 0} {left : List ℕ} → BeginsWithNone f left → Somewhere f P left → ⊥
 nowhere n (here w s p) = n w _ s
 nowhere n (later w s p) = n w _ s
 
@@ -63,48 +68,7 @@ value_broken {w = w} {v = v} x true s t = (
 )
 value_broken {v = v} x false s t = (λ h. (x, v, s, λ d. false≢true (t.1 d)), λ n. refl)
 
--- octets that begin with others
-pub starts : (xs p : List ℕ) → true ≡ starts_with nat_eq xs p → (back : List ℕ) × (xs ≡ p ++ back)
-starts xs p e = (drop (length p) xs, sym (take-append-drop (length p) xs) ∙ ap (λ y. y ++ drop (length p) xs) (sym (same_text p (take (length p) xs) e)))
-
-pub not_starts : (xs p : List ℕ) → false ≡ starts_with nat_eq xs p → ¬ ((back : List ℕ) × (xs ≡ p ++ back))
-not_starts xs p e h = other_text p (take (length p) xs) e (sym (ap (λ y. take (length p) y) h.1 ∙ take-append_seam p h.0))
-
--- two extensions have one identifier where the octets of that of the one begin the other, too
-abbrev before : List ℕ → List ℕ
-before v = identifier Universal false 6 ++ shortest_length (length v)
-
-whole : (v back y : List ℕ) → spells leading_identifier y v back → y ≡ before v ++ v ++ back
-whole v back y a = a.octets ∙ sym (append_assoc (before v) v back)
-
-module _ (x p w r : List ℕ) (s : spells (with_octets leading_identifier) x (p, w) r) where
-  octets_are : p ≡ before w ++ w
-  octets_are = append_cancel_right p (before w ++ w) r (sym s.1 ∙ whole w r x s.0)
-
-  has_one : (y : List ℕ) → (back : List ℕ) × (y ≡ p ++ back) → HaveOneIdentifier x y
-  has_one y (back, e) = (
-    w,
-    r,
-    back,
-    s.0,
-    record {
-      octets = e ∙ ap (λ z. z ++ back) octets_are ∙ append_assoc (before w) w back;
-      number = s.0.number;
-      length = s.0.length;
-    },
-  )
-
-  begins_other : (y : List ℕ) → HaveOneIdentifier x y → (back : List ℕ) × (y ≡ p ++ back)
-  begins_other y (v, r', q, a, b) =
-      let e = ((shows_one leading_identifier tt).one_value x w v r r' s.0 a).0 in
-      (q, whole v q y b ∙ ap (λ z. before z ++ z ++ q) (sym e) ∙ ap (λ z. z ++ q) (sym octets_are))
-
-  pub comes_again : {i : List ℕ} {b : Bool} → IsTrue b ↔ Somewhere sequence (λ y _. (back : List ℕ) × (y ≡ p ++ back)) i → IsTrue b ↔ Somewhere sequence (λ y _. HaveOneIdentifier x y) i
-  comes_again a = (λ h. elsewhere (λ v rest. has_one v) (a.0 h), λ h. a.1 (elsewhere (λ v rest. begins_other v) h))
-
-never : {E V : Type 0} {f : Format E V} {P : V → List ℕ → Type 0} {i : List ℕ} → ((v : V) (rest : List ℕ) → ¬ P v rest) → Somewhere f P i → ⊥
+-- it holds nowhere
+pub never : {E V : Type 0} {f : Format E V} {P : V → List ℕ → Type 0} {i : List ℕ} → ((v : V) (rest : List ℕ) → ¬ P v rest) → Somewhere f P i → ⊥
 never n (here v s p) = n v _ p
 never n (later v s p) = never n p
-
-pub has_none : {x i : List ℕ} → BeginsWithNone leading_identifier x → IsTrue false ↔ Somewhere sequence (λ y _. HaveOneIdentifier x y) i
-has_none n = (λ h. absurd (false≢true h), λ h. absurd (never (λ v rest (w, r, q, a, b). n w r a) h))

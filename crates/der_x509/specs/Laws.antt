@@ -9,7 +9,7 @@ use Rattle.der_x509.specs.Certificates.{Attribute, Signed, attribute, extension,
 use Rattle.der_x509.specs.Certificates.{whole_certificate}
 use Rattle.der_x509.specs.Formats.{list_of, set, spells, with_octets}
 use Rattle.der_x509.specs.Lists.{BeginsWithNone, Somewhere}
-use Rattle.der_x509.specs.Rules.{Breaks, IsDer, NameBreaksDer}
+use Rattle.der_x509.specs.Rules.{Breaks, HasMoreThan, IsDer, NameBreaksDer}
 
 -- the octets are relative names, one after another, and nothing else
 abbrev pub AreRelativeNames : List ℕ → Type 0
@@ -39,11 +39,11 @@ OrderIsOfAttributes = (i : List ℕ) (c : Signed) → spells whole_certificate i
     ↔ let t = c.tbs_certificate in
     Somewhere relative_name (λ w _. IsUnordered w) t.issuer ⊎ Somewhere relative_name (λ w _. IsUnordered w) t.subject
 
--- and by two extensions with one identifier
+-- and by two extensions with one identifier, or more than 512
 abbrev pub RepetitionIsOfIdentifiers : Type 0
 RepetitionIsOfIdentifiers = (i : List ℕ) (c : Signed) → spells whole_certificate i c [] → Breaks DistinctExtensions c
-    ↔ Somewhere extension (λ x rest. Somewhere extension (λ y _. x.identifier ≡ y.identifier) rest)
-    c.tbs_certificate.extensions
+    ↔ let t = c.tbs_certificate in HasMoreThan 512 t.extensions
+    ⊎ Somewhere extension (λ x rest. Somewhere extension (λ y _. x.identifier ≡ y.identifier) rest) t.extensions
 
 -- the octets of an element by DER (X.690 8.1.1, 10.1)
 abbrev pub encoding_of : Element → List ℕ

@@ -1,6 +1,7 @@
 -- The rules of RFC 5280 that its ASN.1 doesn't say, and reading with them.
-use Rattle.std.specs.Prelude.{◌≡◌, ◌≢◌, ℕ, ◌<◌, ◌⊎◌, false, true, pos, ◌<ℤ◌, None, List, [], ◌∷◌, length}
-use Rattle.std.specs.Prelude.{Result, MatchResult}
+use Rattle.std.specs.Prelude.{◌≡◌, ◌≢◌, ℕ, ◌+◌, ◌<◌, ◌⊎◌, false, true, pos, ◌<ℤ◌, None, List, [], ◌∷◌, length}
+use Rattle.std.specs.Prelude.{Result, MatchResult, count_by, nat_eq, slice_index_or}
+use Rattle.std.specs.Cmp.Lexicographic.{pointwise}
 use Rattle.der_base.specs.declared.header.Class.TheVariants.{Universal}
 use Rattle.der_base.specs.declared.rules.Rules.TheVariants.{Der}
 use Rattle.der_base.specs.Octets.{integer_value}
@@ -20,7 +21,7 @@ use Rattle.der_x509.specs.declared.time.Time.TheVariants.{Generalized, Utc}
 use Rattle.der_x509.specs.Certificates.{Algorithm, Signed, certificate_of, extension, whole_certificate}
 use Rattle.der_x509.specs.Formats.{Fault, FieldFault, Format, element, refuses, sequence, set, spells, start}
 use Rattle.der_x509.specs.Formats.{with_octets}
-use Rattle.der_x509.specs.Lists.{Somewhere}
+use Rattle.der_x509.specs.Lists.{BeginsWithNone, Somewhere}
 use Rattle.der_x509.specs.Readers.{field_fault}
 
 abbrev pub IsPositive : List ℕ → Type 0
@@ -65,6 +66,31 @@ HaveOneIdentifier x y = (w : List ℕ) × (r : List ℕ) × (q : List ℕ)
 abbrev pub HasRepetition : List ℕ → Type 0
 HasRepetition i = Somewhere sequence (λ x rest. Somewhere sequence (λ y _. HaveOneIdentifier x y) rest) i
 
+-- the identifiers that extensions begin with, one after another from i up to rest
+pub data AreIdentifiers : List ℕ → List (List ℕ) → List ℕ → Type 0 where
+  at_end : {i rest : List ℕ} {ws : List (List ℕ)} → ws ≡ [] → i ≡ rest → AreIdentifiers i ws rest
+  identified : {i m rest : List ℕ} {ws vs : List (List ℕ)} (x w q : List ℕ) → spells sequence i x m
+      → spells leading_identifier x w q → ws ≡ w ∷ vs → AreIdentifiers m vs rest → AreIdentifiers i ws rest
+  unidentified : {i m rest : List ℕ} {ws : List (List ℕ)} (x : List ℕ) → spells sequence i x m
+      → BeginsWithNone leading_identifier x → AreIdentifiers m ws rest → AreIdentifiers i ws rest
+
+-- more than n extensions begin with one
+abbrev pub HasMoreThan : ℕ → List ℕ → Type 0
+HasMoreThan n i = (ws : List (List ℕ)) × (rest : List ℕ) × AreIdentifiers i ws rest × (n < length ws)
+
+-- two extensions have one identifier (4.2), or there are more than 512: the most is up to an implementation (B)
+abbrev pub AreIndistinct : List ℕ → Type 0
+AreIndistinct i = HasMoreThan 512 i ⊎ HasRepetition i
+
+-- some octets are among the texts more than once
+abbrev pub HasTwice : List (List ℕ) → Type 0
+HasTwice ws = (w : List ℕ) × (1 < count_by (λ v. pointwise nat_eq w v) ws)
+
+-- two that are side by side are the same octets
+abbrev pub HaveEqualNeighbours : {X : Type 0} → List X → (X → List ℕ) → Type 0
+HaveEqualNeighbours {X} xs text = (k : ℕ) × (d : X) × (k + 1 < length xs)
+    × (text (slice_index_or xs k d) ≡ text (slice_index_or xs (k + 1) d))
+
 -- an extension of the list has this identifier, and is critical
 abbrev pub HasCritical : List ℕ → List ℕ → Type 0
 HasCritical identifier i = Somewhere extension (λ e _. (e.identifier ≡ identifier) × (e.critical ≡ true)) i
@@ -105,7 +131,7 @@ Breaks WholeSeconds c = let v = c.tbs_certificate.validity in HasFraction v.not_
 Breaks UniqueIdVersion c = let t = c.tbs_certificate in
     (t.version ≡ V1) × ((t.issuer_id ≢ None) ⊎ (t.subject_id ≢ None))
 Breaks ExtensionsVersion c = let t = c.tbs_certificate in (t.version ≢ V3) × (t.extensions ≢ [])
-Breaks DistinctExtensions c = HasRepetition c.tbs_certificate.extensions
+Breaks DistinctExtensions c = AreIndistinct c.tbs_certificate.extensions
 Breaks NamedSubject c = let t = c.tbs_certificate in
     (t.subject ≡ []) × (¬ HasCritical subject_alternative_name t.extensions)
 Breaks DerValues c = let t = c.tbs_certificate in ParametersBreakDer c.algorithm

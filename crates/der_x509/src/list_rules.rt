@@ -1,10 +1,7 @@
 //! The rules that compare the items of a list.
-ghost use Rattle.std.specs.Prelude.{◌≡◌, ◌↔◌, ◌++◌, IsTrue, List, true, ℕ};
+ghost use Rattle.std.specs.Prelude.{◌≡◌, ◌↔◌, IsTrue, true};
 ghost use Rattle.der_x509.specs.Certificates.{extension_of};
-ghost use Rattle.der_x509.specs.Formats.{sequence};
-ghost use Rattle.der_x509.specs.Lists.{Somewhere};
-ghost use Rattle.der_x509.specs.Rules.{AttributesDescend, DescendsNext, HasCritical, HasDescent, HasRepetition};
-ghost use Rattle.der_x509.specs.Rules.{HaveOneIdentifier};
+ghost use Rattle.der_x509.specs.Rules.{AttributesDescend, DescendsNext, HasCritical, HasDescent};
 
 use crate::extension::{Extension, Extensions};
 use crate::first_element::first_element;
@@ -69,42 +66,4 @@ fn is_critical(extension: &Extension<'_>, identifier: &[u8]) -> bool
         IsTrue result ↔ (e.identifier ≡ identifier.now) × (e.critical ≡ true) }
 {
     extension.critical && absolute_octets(&extension.identifier) == identifier
-}
-
-/// Returns whether two of the extensions have one identifier.
-pub(crate) fn has_repetition(extensions: Extensions<'_>) -> bool
-    ensures { IsTrue result ↔ HasRepetition extensions.entry.octets.now }
-{
-    let mut left = extensions.octets;
-    while let Some(extension) = first_element(left, true, Tag::Sequence) {
-        if comes_again(extension.content, extension.rest) {
-            return true;
-        }
-        left = extension.rest;
-    }
-    false
-}
-
-/// Returns whether one of the extensions that follow has the identifier of this one.
-fn comes_again(extension: &[u8], rest: &[u8]) -> bool
-    ensures { IsTrue result ↔ Somewhere sequence (λ x _. HaveOneIdentifier extension.now x) rest.now }
-{
-    match first_element(extension, false, Tag::Oid) {
-        Some(identifier) => begins_one(identifier.octets, rest),
-        None => false,
-    }
-}
-
-/// Returns whether one of the extensions begins with these octets.
-fn begins_one(octets: &[u8], extensions: &[u8]) -> bool
-    ensures { IsTrue result ↔ Somewhere sequence (λ x _. (back : List ℕ) × (x ≡ octets.now ++ back)) extensions.now }
-{
-    let mut left = extensions;
-    while let Some(extension) = first_element(left, true, Tag::Sequence) {
-        if extension.content.starts_with(octets) {
-            return true;
-        }
-        left = extension.rest;
-    }
-    false
 }

@@ -7,8 +7,9 @@ ghost use Rattle.der_x509.specs.Rules.{ReadsStrictly, every_rule};
 use crate::algorithm::AlgorithmIdentifier;
 use crate::certificate::{Certificate, Version, read_certificate};
 use crate::identifier::absolute_octets;
-use crate::list_rules::{has_critical, has_descent, has_repetition};
+use crate::list_rules::{has_critical, has_descent};
 use crate::refusal::CertificateRefusal;
+use crate::repetition::are_indistinct;
 use crate::time::Time;
 use crate::value_rules::{name_breaks_der, parameters_break_der};
 use der_base::integer::{is_negative, read_u64};
@@ -35,9 +36,8 @@ pub enum Rule {
     UniqueIdVersion,
     /// A certificate with extensions is of version 3 (4.1.2.9).
     ExtensionsVersion,
-    /// No two extensions have one identifier (4.2). Each is compared with all that follow it, so the
-    /// time grows with the square of their number: 40 instructions a pair, a tenth of a second for
-    /// 8,000 extensions in 72,000 octets. A caller that doesn't trust its input limits the size.
+    /// No two extensions have one identifier (4.2). A certificate with more than `MOST_ITEMS`
+    /// extensions breaks the rule, too: how many there may be is up to an implementation (B).
     DistinctExtensions,
     /// A subject without a name has another one, in a critical subjectAltName (4.1.2.6, 4.2.1.6).
     NamedSubject,
@@ -185,7 +185,7 @@ impl Certificate<'_> {
     fn breaks_distinct_extensions(&self) -> bool
         ensures { IsTrue result ↔ Breaks Rule.DistinctExtensions (certificate_of self.now) }
     {
-        has_repetition(self.tbs_certificate.extensions)
+        are_indistinct(self.tbs_certificate.extensions.octets)
     }
 
     fn breaks_named_subject(&self) -> bool

@@ -2,7 +2,7 @@
 use Rattle.std.specs.Prelude.{ℕ, ◌<◌, Option, Some, None, List, length}
 use Rattle.crl_reader.specs.Lists.{Revoked, revoked_certificate}
 use Rattle.der_x509.specs.Lists.{Somewhere}
-use Rattle.der_x509.specs.Rules.{HasFraction, HasRepetition, IsEarly, IsPositive}
+use Rattle.der_x509.specs.Rules.{AreIndistinct, HasFraction, IsEarly, IsPositive}
 use Rattle.x509_crl_rules.specs.declared.entries.EntryRule.{EntryRule}
 use Rattle.x509_crl_rules.specs.declared.entries.EntryRule.TheVariants.{PositiveSerialNumber, ShortSerialNumber}
 use Rattle.x509_crl_rules.specs.declared.entries.EntryRule.TheVariants.{DistinctExtensions, UtcTimeTo2049}
@@ -15,7 +15,7 @@ BreaksEntry PositiveSerialNumber e = ¬ IsPositive e.user_certificate
 BreaksEntry ShortSerialNumber e = 20 < length e.user_certificate
 BreaksEntry UtcTimeTo2049 e = IsEarly e.revocation_date
 BreaksEntry WholeSeconds e = HasFraction e.revocation_date
-BreaksEntry DistinctExtensions e = HasRepetition e.extensions
+BreaksEntry DistinctExtensions e = AreIndistinct e.extensions
 BreaksEntry (Without k f) e = Shows k f e.extensions
 
 -- one of the entries with these octets breaks it, if there are any

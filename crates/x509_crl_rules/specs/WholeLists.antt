@@ -3,7 +3,7 @@ use Rattle.std.specs.Prelude.{◌≡◌, ◌≢◌, ◌⊎◌, Some, None, []}
 use Rattle.std.specs.Option.{IsSomeAnd}
 use Rattle.crl_reader.specs.Lists.{Signed}
 use Rattle.der_x509.specs.declared.certificate.Version.TheVariants.{V2}
-use Rattle.der_x509.specs.Rules.{HasDescent, HasFraction, HasRepetition, IsEarly}
+use Rattle.der_x509.specs.Rules.{AreIndistinct, HasDescent, HasFraction, IsEarly}
 use Rattle.x509_crl_rules.specs.declared.entries.EntryRule.TheVariants.{Without}
 use Rattle.x509_value_rules.specs.declared.facts.Fact.{Fact}
 use Rattle.x509_value_rules.specs.declared.facts.Fact.TheVariants.{Present, Says}
@@ -46,7 +46,7 @@ BreaksWholeList rule.UtcTimeTo2049 l =
 BreaksWholeList rule.WholeSeconds l =
     let t = l.tbs_cert_list in HasFraction t.this_update ⊎ IsSomeAnd t.next_update HasFraction
 BreaksWholeList rule.NextUpdate l = l.tbs_cert_list.next_update ≡ None
-BreaksWholeList rule.DistinctExtensions l = HasRepetition l.tbs_cert_list.extensions
+BreaksWholeList rule.DistinctExtensions l = AreIndistinct l.tbs_cert_list.extensions
 BreaksWholeList rule.SomeEntries l = l.tbs_cert_list.revoked ≡ Some []
 BreaksWholeList rule.KeyIdentifierOfIssuer l = ¬ ListTells KeyIdentifier l
 BreaksWholeList rule.Number l = ¬ ListHas known.CrlNumber Present l

@@ -7,8 +7,8 @@ ghost use Rattle.x509_crl_rules.specs.Entries.{BreaksEntry, SomeEntry};
 
 use crate::fields::{has_fraction, is_early, is_positive};
 use crl_reader::{RevokedCertificate, RevokedCertificates};
+use der_x509::are_indistinct;
 use x509_rule_facts::known::KnownExtension;
-use x509_rule_facts::repetition::has_repetition;
 use x509_value_rules::facts::{Fact, shows};
 
 /// A rule of RFC 5280 about an entry of a list of revoked certificates.
@@ -22,7 +22,7 @@ pub enum EntryRule {
     UtcTimeTo2049,
     /// A date has no fraction of a second (5.1.2.6, 4.1.2.5.2, MUST NOT).
     WholeSeconds,
-    /// No extension of the entry comes twice (5.3, 4.2, MUST NOT).
+    /// No extension of the entry comes twice (5.3, 4.2, MUST NOT), and it has at most `der_x509::MOST_ITEMS` (B).
     DistinctExtensions,
     /// No extension of the entry shows the fact.
     Without(KnownExtension, Fact),
@@ -63,7 +63,7 @@ fn breaks_entry(rule: EntryRule, entry: &RevokedCertificate<'_>) -> bool
         EntryRule::ShortSerialNumber => entry.user_certificate.len() > LONGEST_SERIAL_NUMBER,
         EntryRule::UtcTimeTo2049 => is_early(entry.revocation_date),
         EntryRule::WholeSeconds => has_fraction(entry.revocation_date),
-        EntryRule::DistinctExtensions => has_repetition(entry.crl_entry_extensions.octets),
+        EntryRule::DistinctExtensions => are_indistinct(entry.crl_entry_extensions.octets),
         EntryRule::Without(known, fact) => shows(entry.crl_entry_extensions, known, fact),
     }
 }

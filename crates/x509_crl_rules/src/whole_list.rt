@@ -10,10 +10,9 @@ use crate::entries::{EntryRule, is_entry_broken};
 use crate::examined::{ExaminedList, list_has};
 use crate::fields::{has_fraction, is_early, is_same};
 use crl_reader::{CertificateList, RevokedCertificates};
-use der_x509::{Time, Version, has_descent};
+use der_x509::{Time, Version, are_indistinct, has_descent};
 use x509_rule_facts::attributes::has_mistyped;
 use x509_rule_facts::known::KnownExtension;
-use x509_rule_facts::repetition::has_repetition;
 use x509_rule_facts::value_facts::ValueFact;
 use x509_value_rules::facts::Fact;
 
@@ -37,7 +36,7 @@ pub enum WholeListRule {
     WholeSeconds,
     /// There is a nextUpdate (5.1.2.5, MUST).
     NextUpdate,
-    /// No extension comes twice (5.2, 4.2, MUST NOT).
+    /// No extension comes twice (5.2, 4.2, MUST NOT), and there are at most `der_x509::MOST_ITEMS` (B).
     DistinctExtensions,
     /// There are entries, or no list of them (5.1.2.6, MUST).
     SomeEntries,
@@ -127,7 +126,7 @@ fn breaks_next_update(list: &CertificateList<'_>) -> bool
 fn breaks_distinct_extensions(list: &CertificateList<'_>) -> bool
     ensures { IsTrue result ↔ BreaksWholeList WholeListRule.DistinctExtensions (certificate_list_of list.now) }
 {
-    has_repetition(list.tbs_cert_list.crl_extensions.octets)
+    are_indistinct(list.tbs_cert_list.crl_extensions.octets)
 }
 
 fn breaks_some_entries(list: &CertificateList<'_>) -> bool

@@ -6,5 +6,4 @@ pub mod MailboxLaws
 pub mod MarkLaws
 pub mod PositionLaws
 pub mod SaidLaws
-pub mod SomewhereLaws
 pub mod UriLaws

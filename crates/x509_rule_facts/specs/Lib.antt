@@ -7,7 +7,6 @@ pub mod Identified
 pub mod Identifiers
 pub mod Lists
 pub mod Mailboxes
-pub mod Repetitions
 pub mod Types
 pub mod Uris
 pub mod ValueFacts

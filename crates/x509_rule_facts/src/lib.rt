@@ -12,7 +12,6 @@ pub mod identifier;
 pub mod known;
 pub mod mailbox;
 pub mod readers;
-pub mod repetition;
 pub mod types;
 pub mod uri;
 pub mod value_facts;

@@ -16,7 +16,7 @@ use Rattle.x509_rule_facts.specs.Identifiers.{known_count, known_number, octets_
 use Rattle.x509_value_rules.specs.Readings.{IsReadingOf}
 use Rattle.x509_value_rules.specs.Sorted.{AreSlotsOf, IsAfter, IsSlotOf, Puts, slot_of}
 use Rattle.x509_rule_facts.proofs.IdentifierLaws.{few_extensions, one_extension, one_number}
-use Rattle.x509_rule_facts.proofs.SomewhereLaws.{ahead, nowhere}
+use Rattle.der_x509.proofs.WalkLaws.{ahead, nowhere}
 
 -- what extensions with the octets i show, the slot or those that are left show
 abbrev pub IsSlotSoFar : List ℕ → List ℕ → KnownExtension → Slot → Type 0

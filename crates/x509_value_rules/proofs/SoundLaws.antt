@@ -7,7 +7,7 @@ use Rattle.der_extensions.specs.Extensions.{AccessDescription, AuthorityInfoAcce
 use Rattle.der_extensions.specs.Extensions.{CertificatePolicies, DistributionPoint, PointNameValue, PointValue}
 use Rattle.der_extensions.specs.Extensions.{PolicyInformation, QualifierValue, full_name, name_relative_to_issuer}
 use Rattle.der_extensions.specs.GeneralNames.{GeneralName, GeneralNames, NameValue}
-use Rattle.der_x509.specs.Rules.{HasRepetition}
+use Rattle.der_x509.specs.Rules.{AreIndistinct}
 use Rattle.x509_value_rules.specs.declared.names.NameRule.{NameRule}
 use Rattle.x509_value_rules.specs.declared.names.NameRule.TheVariants as name
 use Rattle.x509_value_rules.specs.declared.notices.QualifierRule.{QualifierRule}
@@ -202,11 +202,11 @@ all_broken : (t : QualifierRule) (q : Option (List ℕ)) → HasBrokenQualifier 
 all_broken t (Some w) a = among_more (broken_is_remark t) a
 all_broken t None a = a
 
-module _ {T E : Type 0} {view : T → List ℕ} (w : List ℕ) {x : T} (r : ReadsWhole {E = E} (Only (Required CertificatePolicies) Der w) view Never (Ok x)) (n : ¬ Among (Required PolicyInformation) HasRemark (view x)) (d : ¬ HasRepetition (view x)) where
+module _ {T E : Type 0} {view : T → List ℕ} (w : List ℕ) {x : T} (r : ReadsWhole {E = E} (Only (Required CertificatePolicies) Der w) view Never (Ok x)) (n : ¬ Among (Required PolicyInformation) HasRemark (view x)) (d : ¬ AreIndistinct (view x)) where
   pub sound_policies : (q : ValueRule) → type_of_rule q ≡ Some kind.Policies → BreaksValue q w → ⊥
   unfolding OfPolicies
   sound_policies (rule.OfType s) e never = never (subst (λ z. IsOfType z w) (same_type e) (view x, r.found))
-  sound_policies rule.DistinctPolicies e s = d (subst HasRepetition (sym (r.only s.0 s.1)) s.2)
+  sound_policies rule.DistinctPolicies e s = d (subst AreIndistinct (sym (r.only s.0 s.1)) s.2)
   sound_policies rule.AnyPolicyQualifiers e s = n (among_more (λ v p. all_others v.1.0 p.1) (subst (Among (Required PolicyInformation) IsAnyWithOther) (sym (r.only s.0 s.1)) s.2))
   sound_policies (rule.Qualifiers q) e s = n (among_more (λ v p. all_broken q v.1.0 p) (subst (Among (Required PolicyInformation) (IsBadlyQualified q)) (sym (r.only s.0 s.1)) s.2))
   sound_policies rule.IssuerAndSerial e s = absurd (subst OfPolicies (sym e) tt)

@@ -10,7 +10,7 @@ use Rattle.der_extensions.specs.Extensions.{CertificatePolicies, DistributionPoi
 use Rattle.der_extensions.specs.GeneralNames.{GeneralName, GeneralNames}
 use Rattle.der_extensions.specs.PolicyExtensions.{PolicyMapping, PolicyMappings}
 use Rattle.der_extensions.specs.Revocation.{IssuingDistributionPoint}
-use Rattle.der_x509.specs.Rules.{HasRepetition}
+use Rattle.der_x509.specs.Rules.{AreIndistinct}
 use Rattle.x509_value_rules.specs.declared.value_rules.ValueRule.{ValueRule}
 use Rattle.x509_value_rules.specs.declared.value_rules.ValueRule.TheVariants.{OfType, IssuerAndSerial, Names, NotEmpty}
 use Rattle.x509_value_rules.specs.declared.value_rules.ValueRule.TheVariants.{AnyPolicyQualifiers, DistinctPolicies}
@@ -60,7 +60,7 @@ abbrev pub BreaksValue : ValueRule → List ℕ → Type 0
 BreaksValue (OfType t) w = ¬ IsOfType t w
 BreaksValue IssuerAndSerial w = Says AuthorityKeyIdentifier IsHalf w
 BreaksValue (Issuer r) w = Says AuthorityKeyIdentifier (IsIssuerBroken r) w
-BreaksValue DistinctPolicies w = Says CertificatePolicies (λ v. HasRepetition v) w
+BreaksValue DistinctPolicies w = Says CertificatePolicies (λ v. AreIndistinct v) w
 BreaksValue AnyPolicyQualifiers w =
     Says CertificatePolicies (λ v. Among (Required PolicyInformation) IsAnyWithOther v) w
 BreaksValue (Qualifiers r) w =

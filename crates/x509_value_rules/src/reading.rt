@@ -16,8 +16,8 @@ use der_extensions::{
     read_authority_key_identifier, read_basic_constraints, read_certificate_policies,
     read_crl_distribution_points, read_general_names, read_key_usage,
 };
+use der_x509::are_indistinct;
 use x509_rule_facts::known::KnownExtension;
-use x509_rule_facts::repetition::has_repetition;
 use x509_rule_facts::types::ValueType;
 use x509_rule_facts::value_facts::{ValueFact, has_key_identifier, has_path_length};
 
@@ -107,7 +107,7 @@ fn are_sound_policies(value: &[u8]) -> bool
     ensures { IsTrue result → IsSound ValueType.Policies value.now }
 {
     match read_certificate_policies(value) {
-        Ok(policies) => !has_remark(&policies) && !has_repetition(policies.octets),
+        Ok(policies) => !has_remark(&policies) && !are_indistinct(policies.octets),
         Err(_) => false,
     }
 }

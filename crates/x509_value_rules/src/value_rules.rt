@@ -24,9 +24,9 @@ use der_extensions::{
     read_certificate_policies, read_crl_distribution_points, read_general_names,
     read_information_access, read_name_constraints, read_policy_mappings,
 };
+use der_x509::are_indistinct;
 use x509_rule_facts::identifier::has_octets;
 use x509_rule_facts::readers::{read_date, read_number};
-use x509_rule_facts::repetition::has_repetition;
 use x509_rule_facts::types::{ValueType, is_of_type};
 
 /// A rule of RFC 5280 about the value of an extension.
@@ -38,7 +38,7 @@ pub enum ValueRule {
     IssuerAndSerial,
     /// authorityKeyIdentifier: each name of authorityCertIssuer keeps the rule (4.2.1.1, 4.2.1.6).
     Issuer(NameRule),
-    /// certificatePolicies: no policy comes twice (4.2.1.4, MUST NOT). Each is compared with all that follow it.
+    /// certificatePolicies: no policy comes twice (4.2.1.4, MUST NOT), and there are at most `der_x509::MOST_ITEMS` (B).
     DistinctPolicies,
     /// certificatePolicies: anyPolicy has no qualifiers but CPS pointers and user notices (4.2.1.4, MUST).
     AnyPolicyQualifiers,
@@ -182,12 +182,12 @@ pub(crate) fn lacks_issuer(authority: &AuthorityKeyIdentifier<'_>) -> bool
     authority.authority_cert_issuer.is_none()
 }
 
-/// Returns whether the octets are certificate policies, one of which comes twice.
+/// Returns whether the octets are certificate policies, one of which comes twice, or more than `MOST_ITEMS`.
 fn breaks_distinct_policies(value: &[u8]) -> bool
     ensures { IsTrue result ↔ BreaksValue ValueRule.DistinctPolicies value.now }
 {
     match read_certificate_policies(value) {
-        Ok(policies) => has_repetition(policies.octets),
+        Ok(policies) => are_indistinct(policies.octets),
         Err(_) => false,
     }
 }

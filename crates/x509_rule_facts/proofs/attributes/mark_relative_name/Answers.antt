@@ -5,7 +5,7 @@ use Rattle.x509_rule_facts.specs.declared.attributes.AttributeKind.{AttributeKin
 use Rattle.x509_rule_facts.specs.Attributes.{IsBad}
 use Rattle.der_x509.proofs.CertificateLaws.{attribute_exact}
 use Rattle.x509_rule_facts.proofs.MarkLaws.{MarkedSoFar, marked_all, marked_more, marked_none}
-use Rattle.x509_rule_facts.proofs.SomewhereLaws.{ahead, nowhere}
+use Rattle.der_x509.proofs.WalkLaws.{ahead, nowhere}
 use Rattle.x509_rule_facts.proofs.attributes.mark_relative_name.Goals as goal
 
 pub loop-attribute-init : goal.loop-attribute-init
