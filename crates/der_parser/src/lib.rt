@@ -63,7 +63,7 @@ pub mod ber {
     }
 
     pub use der_object::{PrettyBer, PrettyPrinterFlag};
-    pub use der_visit::{Visit, VisitMut, Walk, WalkMut};
+    pub use der_visit::{Handles, HandlesMut, Visit, VisitMut, Walk, WalkMut};
 }
 
 /// Reading by DER.

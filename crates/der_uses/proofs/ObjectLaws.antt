@@ -118,7 +118,7 @@ content_counts : {s m : Depths} {o : Content} {n : ℕ} → Quietly (λ (s : Dep
 content_counts (quiet q) = ap (λ d. d.objects) q
 content_counts (stepped r) = absurd r
 
-pub met : (s t : Depths) (o : Node) (n : ℕ) → MeetsObject (λ (s : Depths) (o : Node) (n : ℕ) (t : Depths). t.objects ≡ (s.objects + 1) % 2 ^ 64) (λ (s : Depths) (o : Content) (n : ℕ) (t : Depths). ⊥) s o n t → t.objects ≤ s.objects + 1
+pub met : (s t : Depths) (o : Node) (n : ℕ) → MeetsObject (Quietly (λ (s : Depths) (o : Node) (n : ℕ) (t : Depths). t.objects ≡ (s.objects + 1) % 2 ^ 64)) (Quietly (λ (s : Depths) (o : Content) (n : ℕ) (t : Depths). ⊥)) s o n t → t.objects ≤ s.objects + 1
 met s t o n m = omega (arith, object_counts m.object, content_counts m.content)
 
 -- two objects that are the whole input

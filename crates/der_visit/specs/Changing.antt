@@ -42,12 +42,12 @@ HaveOneType (tagged c t o) (tagged d u q) = ⊤
 HaveOneType (unknown c p t v) (unknown d q u w) = ⊤
 HaveOneType _ _ = ⊥
 
--- The step of a `VisitMut` at one object: that of the object, and then that of the content that is there now, which
+-- The step of a `HandlesMut` at one object: that of the object, and then that of the content that is there now, which
 -- keeps its type.
 pub data ChangesNode {S : Type 0} (object_step : S → Node → ℕ → S → Node → Type 0)
     (content_step : S → Content → ℕ → S → Content → Type 0) : S → Node → ℕ → S → Node → Type 0 where
   at_node : {s m t : S} {o : Node} {n : ℕ} {c : Class} {p : Bool} {k : ℕ} {x y : Content}
-      → QuietlyChanges object_step s o n m (node c p k x) → HaveOneType x y → QuietlyChanges content_step m x n t y
+      → object_step s o n m (node c p k x) → HaveOneType x y → content_step m x n t y
       → ChangesNode object_step content_step s o n t (node c p k y)
 
 module _ {S : Type 0} (R : S → Node → ℕ → S → Node → Type 0) where

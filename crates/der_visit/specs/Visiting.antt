@@ -1,5 +1,5 @@
--- What a visitor does, by relations of its own: `step` of a `Walk`, and of a `Visit` `object_step` of the function that
--- is called at each object and `content_step` of the function of the content's type.
+-- What a visitor does, by relations of its own: `step` of a `Walk`, and of a `Handles` or a `Visit` `object_step` of the
+-- function that is called at each object and `content_step` of the function of the content's type.
 use Rattle.std.specs.Prelude.{◌≡◌, ℕ, Option, Some, None, List, [], ◌∷◌}
 use Rattle.std.specs.Global.{Box}
 use Rattle.der_base.specs.declared.any.Any.{Any}
@@ -26,12 +26,12 @@ pub data Quietly {S X : Type 0} (R : S → X → ℕ → S → Type 0) (s : S) (
 abbrev pub content_of : Node → Content
 content_of (node c p t x) = x
 
--- The step of a `Visit` at one object: that of the object, and then that of its content.
+-- The step of a `Handles` at one object: that of the object, and then that of its content.
 pub record MeetsObject {S : Type 0} (object_step : S → Node → ℕ → S → Type 0)
     (content_step : S → Content → ℕ → S → Type 0) (s : S) (o : Node) (n : ℕ) (t : S) : Type 0 where
   pub between : S
-  pub object : Quietly object_step s o n between
-  pub content : Quietly content_step between (content_of o) n t
+  pub object : object_step s o n between
+  pub content : content_step between (content_of o) n t
 
 -- the contents of an OBJECT IDENTIFIER and of a RELATIVE-OID
 abbrev pub oid_content : Oid → Content

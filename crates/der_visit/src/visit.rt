@@ -4,16 +4,17 @@ ghost use Rattle.std.specs.Option.{option_copied};
 ghost use Rattle.der_base.specs.Listing.{listing};
 ghost use Rattle.der_base.specs.Tree.{Node, Content, end_of_content, boolean, integer, bit_string, string, null};
 ghost use Rattle.der_base.specs.Tree.{enumerated, sequence, set, tagged, time};
-ghost use Rattle.der_object.specs.View.{tree, content_tree, trees};
+ghost use Rattle.der_object.specs.View.{tree, trees};
 ghost use Rattle.der_visit.specs.Visiting.{Quietly, MeetsObject, TakenThrough};
 ghost use Rattle.der_visit.specs.Visiting.{oid_content, relative_oid_content, optional_content, unknown_content};
 
-use crate::walk::{Walk, walk_object};
+use crate::handles::Handles;
+use crate::walk::walk_object;
 use der_base::any::Any;
 use der_base::header::{Class, Tag};
 use der_base::oid::Oid;
 use der_base::time::ASN1DateTime;
-use der_object::{BerObject, BerObjectContent, BitStringObject};
+use der_object::{BerObject, BitStringObject};
 
 /// A visitor with a function for any object and one for each type of content. `run` calls, at an
 /// object and then at each item inside a SEQUENCE or SET, one level deeper, `visit_ber` and after
@@ -24,8 +25,9 @@ use der_object::{BerObject, BerObjectContent, BitStringObject};
 /// takes the visitor by its relation or leaves it unchanged, as an empty body does.
 ///
 /// So the contract of `run` says where and in which order the visitor may change, and by what. It
-/// allows that a function changes nothing at an object. The contract of [`Walk`], which has one
-/// function and no default body, excludes that. Each `Visit` is a `Walk`, and `run` is its walk.
+/// allows that a function changes nothing at an object. [`Handles`] has the same functions without
+/// default bodies, and [`Walk`](crate::Walk) has one, so their contracts exclude that. Each `Visit`
+/// is a `Handles`, each `Handles` is a `Walk`, and `run` is that walk.
 pub trait Visit {
     ghost object_step: { Self → Node → ℕ → Self → Type 0 } = { λ _ _ _ _. ⊥ };
 
@@ -180,8 +182,8 @@ pub trait Visit {
     final fn run<'t>(&mut self, object: &BerObject<'t>)
     where
         Self: Sized,
-        ensures { TakenThrough (MeetsObject object_step content_step) (listing (tree object.now) 0)
-            self.old self.new }
+        ensures { TakenThrough (MeetsObject (Quietly object_step) (Quietly content_step))
+            (listing (tree object.now) 0) self.old self.new }
     {
         walk_object(self, object, 0);
     }
@@ -190,65 +192,133 @@ pub trait Visit {
     final fn run_at<'t>(&mut self, object: &BerObject<'t>, depth: usize)
     where
         Self: Sized,
-        ensures { TakenThrough (MeetsObject object_step content_step) (listing (tree object.now) depth)
-            self.old self.new }
+        ensures { TakenThrough (MeetsObject (Quietly object_step) (Quietly content_step))
+            (listing (tree object.now) depth) self.old self.new }
     {
         walk_object(self, object, depth);
     }
 }
 
-/// Each step of the walk is `visit_ber`, and then the function of the content's type.
-impl<V: Visit> Walk for V {
-    ghost step = { MeetsObject V.object_step V.content_step };
+/// Each function calls that of its name, which no clause shows, since it may be left empty. A test
+/// shows it (`objects/visits.rows`).
+impl<V: Visit> Handles for V {
+    ghost object_step = { Quietly V.object_step };
 
-    #[inline]
-    fn visit_object<'t>(&mut self, object: &BerObject<'t>, depth: usize) {
+    ghost content_step = { Quietly V.content_step };
+
+    fn handle_object<'t>(&mut self, object: &BerObject<'t>, depth: usize) {
         self.visit_ber(object, depth);
-        visit_content(self, &object.content, depth);
     }
-}
 
-/// Calls the function of the content's type.
-#[inline]
-#[tactic(auto, using(der_object::proofs::Trees::sequence_tree, der_object::proofs::Trees::set_tree))]
-fn visit_content<V: Visit>(visitor: &mut V, content: &BerObjectContent<'_>, depth: usize)
-    ensures { Quietly V.content_step visitor.old (content_tree content.now) depth visitor.new }
-{
-    match content {
-        BerObjectContent::EndOfContent => visitor.visit_ber_endofcontent(depth),
-        BerObjectContent::Boolean(value) => visitor.visit_ber_boolean(*value, depth),
-        BerObjectContent::Integer(octets) => visitor.visit_ber_integer(octets, depth),
-        BerObjectContent::BitString(unused, bits) => {
-            visitor.visit_ber_bitstring(*unused, bits, depth)
-        }
-        BerObjectContent::OctetString(octets) => visitor.visit_ber_octetstring(octets, depth),
-        BerObjectContent::Null => visitor.visit_ber_null(depth),
-        BerObjectContent::Enum(number) => visitor.visit_ber_enum(*number, depth),
-        BerObjectContent::OID(oid) => visitor.visit_ber_oid(oid, depth),
-        BerObjectContent::RelativeOID(oid) => visitor.visit_ber_relative_oid(oid, depth),
-        BerObjectContent::NumericString(text) => visitor.visit_ber_numericstring(text, depth),
-        BerObjectContent::VisibleString(text) => visitor.visit_ber_visiblestring(text, depth),
-        BerObjectContent::PrintableString(text) => visitor.visit_ber_printablestring(text, depth),
-        BerObjectContent::IA5String(text) => visitor.visit_ber_ia5string(text, depth),
-        BerObjectContent::UTF8String(text) => visitor.visit_ber_utf8string(text, depth),
-        BerObjectContent::T61String(text) => visitor.visit_ber_teletexstring(text, depth),
-        BerObjectContent::VideotexString(text) => visitor.visit_ber_videotextstring(text, depth),
-        BerObjectContent::ObjectDescriptor(text) => visitor.visit_ber_objectdescriptor(text, depth),
-        BerObjectContent::GraphicString(text) => visitor.visit_ber_graphicstring(text, depth),
-        BerObjectContent::GeneralString(text) => visitor.visit_ber_generalstring(text, depth),
-        BerObjectContent::BmpString(octets) => visitor.visit_ber_bmpstring(octets, depth),
-        BerObjectContent::UniversalString(octets) => {
-            visitor.visit_ber_universalstring(octets, depth)
-        }
-        BerObjectContent::Sequence(items) => visitor.visit_ber_sequence(items, depth),
-        BerObjectContent::Set(items) => visitor.visit_ber_set(items, depth),
-        BerObjectContent::UTCTime(time) => visitor.visit_ber_utctime(time, depth),
-        BerObjectContent::GeneralizedTime(time) => visitor.visit_ber_generalizedtime(time, depth),
-        BerObjectContent::Optional(Some(inner)) => visitor.visit_ber_optional(Some(inner), depth),
-        BerObjectContent::Optional(None) => visitor.visit_ber_optional(None, depth),
-        BerObjectContent::Tagged(class, tag, inner) => {
-            visitor.visit_ber_tagged(*class, *tag, inner, depth)
-        }
-        BerObjectContent::Unknown(any) => visitor.visit_ber_unknown(any, depth),
+    fn handle_endofcontent(&mut self, depth: usize) {
+        self.visit_ber_endofcontent(depth);
+    }
+
+    fn handle_boolean(&mut self, value: bool, depth: usize) {
+        self.visit_ber_boolean(value, depth);
+    }
+
+    fn handle_integer<'t>(&mut self, octets: &'t [u8], depth: usize) {
+        self.visit_ber_integer(octets, depth);
+    }
+
+    fn handle_bitstring<'t>(&mut self, unused: u8, bits: &BitStringObject<'t>, depth: usize) {
+        self.visit_ber_bitstring(unused, bits, depth);
+    }
+
+    fn handle_octetstring<'t>(&mut self, octets: &'t [u8], depth: usize) {
+        self.visit_ber_octetstring(octets, depth);
+    }
+
+    fn handle_null(&mut self, depth: usize) {
+        self.visit_ber_null(depth);
+    }
+
+    fn handle_enum(&mut self, number: u64, depth: usize) {
+        self.visit_ber_enum(number, depth);
+    }
+
+    fn handle_oid<'t>(&mut self, oid: &Oid<'t>, depth: usize) {
+        self.visit_ber_oid(oid, depth);
+    }
+
+    fn handle_relative_oid<'t>(&mut self, oid: &Oid<'t>, depth: usize) {
+        self.visit_ber_relative_oid(oid, depth);
+    }
+
+    fn handle_numericstring<'t>(&mut self, text: &'t str, depth: usize) {
+        self.visit_ber_numericstring(text, depth);
+    }
+
+    fn handle_visiblestring<'t>(&mut self, text: &'t str, depth: usize) {
+        self.visit_ber_visiblestring(text, depth);
+    }
+
+    fn handle_printablestring<'t>(&mut self, text: &'t str, depth: usize) {
+        self.visit_ber_printablestring(text, depth);
+    }
+
+    fn handle_ia5string<'t>(&mut self, text: &'t str, depth: usize) {
+        self.visit_ber_ia5string(text, depth);
+    }
+
+    fn handle_utf8string<'t>(&mut self, text: &'t str, depth: usize) {
+        self.visit_ber_utf8string(text, depth);
+    }
+
+    fn handle_teletexstring<'t>(&mut self, text: &'t str, depth: usize) {
+        self.visit_ber_teletexstring(text, depth);
+    }
+
+    fn handle_videotextstring<'t>(&mut self, text: &'t str, depth: usize) {
+        self.visit_ber_videotextstring(text, depth);
+    }
+
+    fn handle_objectdescriptor<'t>(&mut self, text: &'t str, depth: usize) {
+        self.visit_ber_objectdescriptor(text, depth);
+    }
+
+    fn handle_graphicstring<'t>(&mut self, text: &'t str, depth: usize) {
+        self.visit_ber_graphicstring(text, depth);
+    }
+
+    fn handle_generalstring<'t>(&mut self, text: &'t str, depth: usize) {
+        self.visit_ber_generalstring(text, depth);
+    }
+
+    fn handle_bmpstring<'t>(&mut self, octets: &'t [u8], depth: usize) {
+        self.visit_ber_bmpstring(octets, depth);
+    }
+
+    fn handle_universalstring<'t>(&mut self, octets: &'t [u8], depth: usize) {
+        self.visit_ber_universalstring(octets, depth);
+    }
+
+    fn handle_sequence<'t>(&mut self, items: &[BerObject<'t>], depth: usize) {
+        self.visit_ber_sequence(items, depth);
+    }
+
+    fn handle_set<'t>(&mut self, items: &[BerObject<'t>], depth: usize) {
+        self.visit_ber_set(items, depth);
+    }
+
+    fn handle_utctime(&mut self, datetime: &ASN1DateTime, depth: usize) {
+        self.visit_ber_utctime(datetime, depth);
+    }
+
+    fn handle_generalizedtime(&mut self, datetime: &ASN1DateTime, depth: usize) {
+        self.visit_ber_generalizedtime(datetime, depth);
+    }
+
+    fn handle_optional<'t>(&mut self, object: Option<&BerObject<'t>>, depth: usize) {
+        self.visit_ber_optional(object, depth);
+    }
+
+    fn handle_tagged<'t>(&mut self, class: Class, tag: Tag, object: &BerObject<'t>, depth: usize) {
+        self.visit_ber_tagged(class, tag, object, depth);
+    }
+
+    fn handle_unknown<'t>(&mut self, any: &Any<'t>, depth: usize) {
+        self.visit_ber_unknown(any, depth);
     }
 }

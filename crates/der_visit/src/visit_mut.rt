@@ -2,18 +2,18 @@
 ghost use Rattle.std.specs.Prelude.{ℕ, ◌≤◌};
 ghost use Rattle.der_base.specs.Tree.{Node, Content, end_of_content, boolean, integer, bit_string, string, null};
 ghost use Rattle.der_base.specs.Tree.{enumerated, sequence, set, tagged, time};
-ghost use Rattle.der_base.specs.Tree.{height, content_height, list_height};
-ghost use Rattle.der_object.specs.View.{tree, content_tree, trees};
-ghost use Rattle.der_visit.specs.Changing.{QuietlyChanges, HaveOneType, ChangesNode, ChangesObject};
+ghost use Rattle.der_base.specs.Tree.{height, list_height};
+ghost use Rattle.der_object.specs.View.{tree, trees};
+ghost use Rattle.der_visit.specs.Changing.{QuietlyChanges, ChangesNode, ChangesObject};
 ghost use Rattle.der_visit.specs.Visiting.{oid_content, relative_oid_content, boxed_content, unknown_content};
 
-use crate::walk_mut::{WalkMut, walk_object};
+use crate::handles_mut::HandlesMut;
+use crate::walk_mut::walk_object;
 use der_base::any::Any;
 use der_base::header::{Class, Tag};
 use der_base::oid::Oid;
 use der_base::time::ASN1DateTime;
-use der_object::{BerObject, BerObjectContent, BitStringObject};
-use std::mem;
+use der_object::{BerObject, BitStringObject};
 
 /// A visitor that may change what it visits, with a function for any object and one for each type
 /// of content. `run` calls `visit_ber_mut` at an object, then the function of the type that its
@@ -25,9 +25,10 @@ use std::mem;
 /// visited after. A function does what its relation says or changes nothing, as an empty body does.
 ///
 /// `visit_ber_mut` may make no object higher, and the functions of SEQUENCE and SET no list, so
-/// each visit ends. The contract of `run` allows that a function changes nothing at an object. The
-/// contract of [`WalkMut`], which has one function and no default body, excludes that. Each
-/// `VisitMut` is a `WalkMut`, and `run` is its walk.
+/// each visit ends. The contract of `run` allows that a function changes nothing at an object.
+/// [`HandlesMut`] has the same functions without default bodies, and [`WalkMut`](crate::WalkMut)
+/// has one, so their contracts exclude that. Each `VisitMut` is a `HandlesMut`, each `HandlesMut`
+/// is a `WalkMut`, and `run` is that walk.
 pub trait VisitMut {
     ghost object_step: { Self → Node → ℕ → Self → Node → Type 0 } = { λ _ _ _ _ _. ⊥ };
 
@@ -171,17 +172,17 @@ pub trait VisitMut {
     /// SEQUENCE and SEQUENCE OF (8.9, 8.10), before the items.
     /// The list may become no higher.
     fn visit_ber_sequence_mut<'t>(&mut self, items: &mut Vec<BerObject<'t>>, depth: usize)
+        ensures no_higher { list_height (trees items.new.items) ≤ list_height (trees items.old.items) }
         ensures step { QuietlyChanges content_step self.old (sequence (trees items.old.items)) depth
             self.new (sequence (trees items.new.items)) }
-        ensures no_higher { list_height (trees items.new.items) ≤ list_height (trees items.old.items) }
     {}
 
     /// SET and SET OF (8.11, 8.12), before the items.
     /// The list may become no higher.
     fn visit_ber_set_mut<'t>(&mut self, items: &mut Vec<BerObject<'t>>, depth: usize)
+        ensures no_higher { list_height (trees items.new.items) ≤ list_height (trees items.old.items) }
         ensures step { QuietlyChanges content_step self.old (set (trees items.old.items)) depth
             self.new (set (trees items.new.items)) }
-        ensures no_higher { list_height (trees items.new.items) ≤ list_height (trees items.old.items) }
     {}
 
     /// UTCTime, by its fields, which stay as they are (X.680 47).
@@ -224,8 +225,8 @@ pub trait VisitMut {
     final fn run<'t>(&mut self, object: &mut BerObject<'t>)
     where
         Self: Sized,
-        ensures { ChangesObject (ChangesNode object_step content_step) self.old (tree object.old) 0
-            self.new (tree object.new) }
+        ensures { ChangesObject (ChangesNode (QuietlyChanges object_step) (QuietlyChanges content_step))
+            self.old (tree object.old) 0 self.new (tree object.new) }
     {
         walk_object(self, object, 0);
     }
@@ -234,111 +235,144 @@ pub trait VisitMut {
     final fn run_at<'t>(&mut self, object: &mut BerObject<'t>, depth: usize)
     where
         Self: Sized,
-        ensures { ChangesObject (ChangesNode object_step content_step) self.old (tree object.old) depth
-            self.new (tree object.new) }
+        ensures { ChangesObject (ChangesNode (QuietlyChanges object_step) (QuietlyChanges content_step))
+            self.old (tree object.old) depth self.new (tree object.new) }
     {
         walk_object(self, object, depth);
     }
 }
 
-/// Calls the function of a BIT STRING, for a content that is one.
-fn visit_bit_string<V: VisitMut>(visitor: &mut V, content: &mut BerObjectContent<'_>, depth: usize)
-    ensures step { QuietlyChanges V.content_step visitor.old (content_tree content.old) depth
-        visitor.new (content_tree content.new) }
-    ensures one_type { HaveOneType (content_tree content.old) (content_tree content.new) }
-{
-    if let BerObjectContent::BitString(mut unused, mut bits) = *content {
-        visitor.visit_ber_bitstring_mut(&mut unused, &mut bits, depth);
-        *content = BerObjectContent::BitString(unused, bits);
-    }
-}
+/// Each function calls that of its name, which no clause shows, since it may be left empty. A test
+/// shows it (`objects/visits.rows`).
+impl<V: VisitMut> HandlesMut for V {
+    ghost object_step = { QuietlyChanges V.object_step };
 
-/// Calls the function of a tagged object, for a content that is one.
-fn visit_tagged<V: VisitMut>(visitor: &mut V, content: &mut BerObjectContent<'_>, depth: usize)
-    ensures step { QuietlyChanges V.content_step visitor.old (content_tree content.old) depth
-        visitor.new (content_tree content.new) }
-    ensures one_type { HaveOneType (content_tree content.old) (content_tree content.new) }
-{
-    match mem::replace(content, BerObjectContent::Null) {
-        BerObjectContent::Tagged(mut class, mut tag, mut inner) => {
-            visitor.visit_ber_tagged_mut(&mut class, &mut tag, &mut inner, depth);
-            *content = BerObjectContent::Tagged(class, tag, inner);
-        }
-        other => *content = other,
-    }
-}
+    ghost content_step = { QuietlyChanges V.content_step };
 
-/// Calls the function of the content's type, if that isn't SEQUENCE or SET.
-#[inline]
-fn visit_leaf<V: VisitMut>(visitor: &mut V, content: &mut BerObjectContent<'_>, depth: usize)
-    ensures step { QuietlyChanges V.content_step visitor.old (content_tree content.old) depth
-        visitor.new (content_tree content.new) }
-    ensures one_type { HaveOneType (content_tree content.old) (content_tree content.new) }
-{
-    match content {
-        BerObjectContent::EndOfContent => visitor.visit_ber_endofcontent_mut(depth),
-        BerObjectContent::Boolean(value) => visitor.visit_ber_boolean_mut(value, depth),
-        BerObjectContent::Integer(octets) => visitor.visit_ber_integer_mut(octets, depth),
-        BerObjectContent::BitString(..) => visit_bit_string(visitor, content, depth),
-        BerObjectContent::OctetString(octets) => visitor.visit_ber_octetstring_mut(octets, depth),
-        BerObjectContent::Null => visitor.visit_ber_null_mut(depth),
-        BerObjectContent::Enum(number) => visitor.visit_ber_enum_mut(number, depth),
-        BerObjectContent::OID(oid) => visitor.visit_ber_oid_mut(oid, depth),
-        BerObjectContent::RelativeOID(oid) => visitor.visit_ber_relative_oid_mut(oid, depth),
-        BerObjectContent::NumericString(text) => visitor.visit_ber_numericstring_mut(text, depth),
-        BerObjectContent::VisibleString(text) => visitor.visit_ber_visiblestring_mut(text, depth),
-        BerObjectContent::PrintableString(text) => {
-            visitor.visit_ber_printablestring_mut(text, depth)
-        }
-        BerObjectContent::IA5String(text) => visitor.visit_ber_ia5string_mut(text, depth),
-        BerObjectContent::UTF8String(text) => visitor.visit_ber_utf8string_mut(text, depth),
-        BerObjectContent::T61String(text) => visitor.visit_ber_teletexstring_mut(text, depth),
-        BerObjectContent::VideotexString(text) => {
-            visitor.visit_ber_videotextstring_mut(text, depth)
-        }
-        BerObjectContent::ObjectDescriptor(text) => {
-            visitor.visit_ber_objectdescriptor_mut(text, depth)
-        }
-        BerObjectContent::GraphicString(text) => visitor.visit_ber_graphicstring_mut(text, depth),
-        BerObjectContent::GeneralString(text) => visitor.visit_ber_generalstring_mut(text, depth),
-        BerObjectContent::BmpString(octets) => visitor.visit_ber_bmpstring_mut(octets, depth),
-        BerObjectContent::UniversalString(octets) => {
-            visitor.visit_ber_universalstring_mut(octets, depth)
-        }
-        BerObjectContent::UTCTime(time) => visitor.visit_ber_utctime_mut(time, depth),
-        BerObjectContent::GeneralizedTime(time) => {
-            visitor.visit_ber_generalizedtime_mut(time, depth)
-        }
-        BerObjectContent::Optional(inner) => visitor.visit_ber_optional_mut(inner, depth),
-        BerObjectContent::Tagged(..) => visit_tagged(visitor, content, depth),
-        BerObjectContent::Unknown(any) => visitor.visit_ber_unknown_mut(any, depth),
-        BerObjectContent::Sequence(_) | BerObjectContent::Set(_) => {}
-    }
-}
-
-/// Calls the function of the content's type.
-#[inline]
-fn visit_content<V: VisitMut>(visitor: &mut V, content: &mut BerObjectContent<'_>, depth: usize)
-    ensures step { QuietlyChanges V.content_step visitor.old (content_tree content.old) depth
-        visitor.new (content_tree content.new) }
-    ensures one_type { HaveOneType (content_tree content.old) (content_tree content.new) }
-    ensures no_higher { content_height (content_tree content.new) ≤ content_height (content_tree content.old) }
-{
-    match content {
-        BerObjectContent::Sequence(items) => visitor.visit_ber_sequence_mut(items, depth),
-        BerObjectContent::Set(items) => visitor.visit_ber_set_mut(items, depth),
-        leaf => visit_leaf(visitor, leaf, depth),
-    }
-}
-
-/// Each step of the walk is `visit_ber_mut`, and then the function of the type that the content
-/// has now.
-impl<V: VisitMut> WalkMut for V {
-    ghost step = { ChangesNode V.object_step V.content_step };
-
-    #[inline]
-    fn visit_object_mut<'t>(&mut self, object: &mut BerObject<'t>, depth: usize) {
+    fn handle_object_mut<'t>(&mut self, object: &mut BerObject<'t>, depth: usize) {
         self.visit_ber_mut(object, depth);
-        visit_content(self, &mut object.content, depth);
+    }
+
+    fn handle_endofcontent_mut(&mut self, depth: usize) {
+        self.visit_ber_endofcontent_mut(depth);
+    }
+
+    fn handle_boolean_mut(&mut self, value: &mut bool, depth: usize) {
+        self.visit_ber_boolean_mut(value, depth);
+    }
+
+    fn handle_integer_mut<'t>(&mut self, octets: &mut &'t [u8], depth: usize) {
+        self.visit_ber_integer_mut(octets, depth);
+    }
+
+    fn handle_bitstring_mut<'t>(
+        &mut self,
+        unused: &mut u8,
+        bits: &mut BitStringObject<'t>,
+        depth: usize,
+    ) {
+        self.visit_ber_bitstring_mut(unused, bits, depth);
+    }
+
+    fn handle_octetstring_mut<'t>(&mut self, octets: &'t [u8], depth: usize) {
+        self.visit_ber_octetstring_mut(octets, depth);
+    }
+
+    fn handle_null_mut(&mut self, depth: usize) {
+        self.visit_ber_null_mut(depth);
+    }
+
+    fn handle_enum_mut(&mut self, number: &mut u64, depth: usize) {
+        self.visit_ber_enum_mut(number, depth);
+    }
+
+    fn handle_oid_mut<'t>(&mut self, oid: &mut Oid<'t>, depth: usize) {
+        self.visit_ber_oid_mut(oid, depth);
+    }
+
+    fn handle_relative_oid_mut<'t>(&mut self, oid: &mut Oid<'t>, depth: usize) {
+        self.visit_ber_relative_oid_mut(oid, depth);
+    }
+
+    fn handle_numericstring_mut<'t>(&mut self, text: &mut &'t str, depth: usize) {
+        self.visit_ber_numericstring_mut(text, depth);
+    }
+
+    fn handle_visiblestring_mut<'t>(&mut self, text: &mut &'t str, depth: usize) {
+        self.visit_ber_visiblestring_mut(text, depth);
+    }
+
+    fn handle_printablestring_mut<'t>(&mut self, text: &mut &'t str, depth: usize) {
+        self.visit_ber_printablestring_mut(text, depth);
+    }
+
+    fn handle_ia5string_mut<'t>(&mut self, text: &mut &'t str, depth: usize) {
+        self.visit_ber_ia5string_mut(text, depth);
+    }
+
+    fn handle_utf8string_mut<'t>(&mut self, text: &'t str, depth: usize) {
+        self.visit_ber_utf8string_mut(text, depth);
+    }
+
+    fn handle_teletexstring_mut<'t>(&mut self, text: &mut &'t str, depth: usize) {
+        self.visit_ber_teletexstring_mut(text, depth);
+    }
+
+    fn handle_videotextstring_mut<'t>(&mut self, text: &mut &'t str, depth: usize) {
+        self.visit_ber_videotextstring_mut(text, depth);
+    }
+
+    fn handle_objectdescriptor_mut<'t>(&mut self, text: &mut &'t str, depth: usize) {
+        self.visit_ber_objectdescriptor_mut(text, depth);
+    }
+
+    fn handle_graphicstring_mut<'t>(&mut self, text: &mut &'t str, depth: usize) {
+        self.visit_ber_graphicstring_mut(text, depth);
+    }
+
+    fn handle_generalstring_mut<'t>(&mut self, text: &mut &'t str, depth: usize) {
+        self.visit_ber_generalstring_mut(text, depth);
+    }
+
+    fn handle_bmpstring_mut<'t>(&mut self, octets: &mut &'t [u8], depth: usize) {
+        self.visit_ber_bmpstring_mut(octets, depth);
+    }
+
+    fn handle_universalstring_mut<'t>(&mut self, octets: &mut &'t [u8], depth: usize) {
+        self.visit_ber_universalstring_mut(octets, depth);
+    }
+
+    fn handle_sequence_mut<'t>(&mut self, items: &mut Vec<BerObject<'t>>, depth: usize) {
+        self.visit_ber_sequence_mut(items, depth);
+    }
+
+    fn handle_set_mut<'t>(&mut self, items: &mut Vec<BerObject<'t>>, depth: usize) {
+        self.visit_ber_set_mut(items, depth);
+    }
+
+    fn handle_utctime_mut(&mut self, datetime: &ASN1DateTime, depth: usize) {
+        self.visit_ber_utctime_mut(datetime, depth);
+    }
+
+    fn handle_generalizedtime_mut(&mut self, datetime: &ASN1DateTime, depth: usize) {
+        self.visit_ber_generalizedtime_mut(datetime, depth);
+    }
+
+    fn handle_optional_mut<'t>(&mut self, object: &mut Option<Box<BerObject<'t>>>, depth: usize) {
+        self.visit_ber_optional_mut(object, depth);
+    }
+
+    fn handle_tagged_mut<'t>(
+        &mut self,
+        class: &mut Class,
+        tag: &mut Tag,
+        object: &mut BerObject<'t>,
+        depth: usize,
+    ) {
+        self.visit_ber_tagged_mut(class, tag, object, depth);
+    }
+
+    fn handle_unknown_mut<'t>(&mut self, any: &mut Any<'t>, depth: usize) {
+        self.visit_ber_unknown_mut(any, depth);
     }
 }

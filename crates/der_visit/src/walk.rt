@@ -14,8 +14,8 @@ use der_object::{BerObject, BerObjectContent};
 /// and the visitor after. The function has no default body, and `walk` takes the visitor through
 /// the whole listing by `step`: it leaves no object out and calls the function once at each.
 ///
-/// An object inside an explicit tag (`Tagged`) or an `Optional` isn't visited. Each `Visit` is a
-/// `Walk`, whose `visit_object` calls `visit_ber` and then the function of the content's type.
+/// An object inside an explicit tag (`Tagged`) or an `Optional` isn't visited. Each
+/// [`Handles`](crate::Handles), and so each [`Visit`](crate::Visit), is a `Walk`.
 pub trait Walk {
     ghost step: { Self → Node → ℕ → Self → Type 0 };
 

@@ -15,7 +15,8 @@ use der_object::{BerObject, BerObjectContent};
 /// the visitor and the object through every step: it leaves no object out.
 ///
 /// The function may make no object higher, so each walk ends. An object inside an explicit tag
-/// (`Tagged`) or an `Optional` isn't visited. Each `VisitMut` is a `WalkMut`.
+/// (`Tagged`) or an `Optional` isn't visited. Each [`HandlesMut`](crate::HandlesMut), and so each
+/// [`VisitMut`](crate::VisitMut), is a `WalkMut`.
 pub trait WalkMut {
     ghost step: { Self → Node → ℕ → Self → Node → Type 0 };
 
