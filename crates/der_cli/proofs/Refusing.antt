@@ -45,8 +45,9 @@ shorter {j = j} {label = label} {lines = lines} {rest = rest} b =
       ap length b.end.whole,
       behind (codes "-----") b.opened,
       behind label (codes "-----" ++ b.opened),
-      ap length b.begin.2,
-      length-drop (b.begin.0 + 11) j,
+      ap length b.begin.2.whole,
+      ap length b.begin.1.2,
+      length-drop (b.begin.1.0 + 11) j,
     )
 
 -- there are no more blocks than octets

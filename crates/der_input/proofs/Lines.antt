@@ -1,5 +1,5 @@
 -- Where blocks begin.
-use Rattle.std.proofs.Common.{◌≡◌, ℕ, zero, suc, ◌+◌, ◌-◌, ◌<◌, ◌≤◌, ◌&&◌, Bool, true, false, cond, List, length, take, drop, Option, Some, None, ◌++◌, refl, subst, sym, ap, ◌∙◌, arith, codes, inl, inr}
+use Rattle.std.proofs.Common.{◌≡◌, ℕ, zero, suc, ◌+◌, ◌-◌, ◌<◌, ◌≤◌, ◌&&◌, Bool, true, false, cond, List, length, take, drop, Option, Some, None, refl, sym, ap, ◌∙◌, arith, codes, inl, inr}
 use Rattle.std.specs.Borrow.{Bor}
 use Rattle.std.specs.Prelude.{MatchOption, find, slice_index}
 use Rattle.std.proofs.lemmas.Bool.{cases_order, cases_Bool}
@@ -8,7 +8,7 @@ use Rattle.std.specs.List.{range_with_len}
 use Rattle.bstr.specs.Find.{FindsNeedle, OccursAt, occurs_at}
 use Rattle.bstr.specs.Text.{Contains}
 use Rattle.memchr.proofs.lemmas.MatchLemmas.{OccursAt-true, occurs_at-true}
-use Rattle.der_input.specs.Blocks.{HasNoLabel, OpensBlock, SplitsRound, begins_block, begins_here}
+use Rattle.der_input.specs.Blocks.{HasLabel, HasNoLabel, OpensBlock, SplitsRound, begins_block, begins_here}
 use Rattle.der_input.specs.Marks.{first_place}
 
 -- what a search of a rest finds, as offsets of the whole
@@ -80,6 +80,6 @@ place_is text needle None some found =
 -- a block's label ends with dashes, or there are none
 pub labelled : (text block : List ℕ) (r : Option (Bor (List ℕ) × Bor (List ℕ))) → OpensBlock text block
     → MatchOption r (¬ Contains block (codes "-----")) (λ x. SplitsRound block (codes "-----") x.0.now x.1.now)
-    → MatchOption r (HasNoLabel text) (λ x. OpensBlock text (x.0.now ++ (codes "-----" ++ x.1.now)))
+    → MatchOption r (HasNoLabel text) (λ x. HasLabel text x.0.now x.1.now)
 labelled text block None opens none = inr (block, opens, none)
-labelled text block (Some x) opens split = subst (OpensBlock text) split.whole opens
+labelled text block (Some x) opens split = (block, opens, split)

@@ -51,17 +51,21 @@ first_begin i = find (begins_block i) (range_with_len 0 (length i))
 abbrev pub OpensBlock : List ℕ → List ℕ → Type 0
 OpensBlock text opened = (k : ℕ) × (first_begin text ≡ Some k) × (opened ≡ drop (k + 11) text)
 
+-- text is split round the first place where a needle occurs
+pub record SplitsRound (text needle before after : List ℕ) : Type 0 where
+  pub whole : text ≡ before ++ (needle ++ after)
+  pub first : (k : ℕ) → k < length before → ¬ OccursAt text needle k
+
+-- A block begins. Its label ends at the first dashes (RFC 7468 3), and opened follows them.
+abbrev pub HasLabel : List ℕ → List ℕ → List ℕ → Type 0
+HasLabel text label opened = (block : List ℕ) × OpensBlock text block × SplitsRound block (codes "-----") label opened
+
 -- no block begins, or no dashes follow its begin
 abbrev pub HasNoBegin : List ℕ → Type 0
 HasNoBegin text = first_begin text ≡ None
 
 abbrev pub HasNoLabel : List ℕ → Type 0
 HasNoLabel text = HasNoBegin text ⊎ ((block : List ℕ) × OpensBlock text block × ¬ Contains block (codes "-----"))
-
--- text is split round the first place where a needle occurs
-pub record SplitsRound (text needle before after : List ℕ) : Type 0 where
-  pub whole : text ≡ before ++ (needle ++ after)
-  pub first : (k : ℕ) → k < length before → ¬ OccursAt text needle k
 
 -- what callers see of a block
 abbrev pub label_of : Block → List ℕ
@@ -73,7 +77,7 @@ lines_of b = b.lines.now
 -- The first block of a text: a line with its label begins it, one with the same label ends it, and rest follows.
 pub record BeginsWithBlock (text label lines rest : List ℕ) : Type 0 where
   pub opened : List ℕ
-  pub begin : OpensBlock text (label ++ (codes "-----" ++ opened))
+  pub begin : HasLabel text label opened
   pub end : SplitsRound opened (codes "-----END ") lines (label ++ (codes "-----" ++ rest))
   pub inside : ¬ Contains lines (codes "-----")
 
@@ -82,19 +86,15 @@ pub record BeginsWithBlock (text label lines rest : List ℕ) : Type 0 where
 pub data BreaksBlock (text : List ℕ) : FormError → Type 0 where
   endless_label : {e : FormError} (block : List ℕ) → e ≡ NoEnd → OpensBlock text block
       → ¬ Contains block (codes "-----") → BreaksBlock text e
-  endless_lines : {e : FormError} (block label opened : List ℕ) → e ≡ NoEnd
-      → OpensBlock text block → SplitsRound block (codes "-----") label opened
+  endless_lines : {e : FormError} (label opened : List ℕ) → e ≡ NoEnd → HasLabel text label opened
       → ¬ Contains opened (codes "-----END ") → BreaksBlock text e
-  other_lines : {e : FormError} (block label opened lines end : List ℕ) → e ≡ NoEnd
-      → OpensBlock text block → SplitsRound block (codes "-----") label opened
+  other_lines : {e : FormError} (label opened lines end : List ℕ) → e ≡ NoEnd → HasLabel text label opened
       → SplitsRound opened (codes "-----END ") lines end → Contains lines (codes "-----") → BreaksBlock text e
-  endless_end : {e : FormError} (block label opened lines end : List ℕ) → e ≡ NoEnd
-      → OpensBlock text block → SplitsRound block (codes "-----") label opened
+  endless_end : {e : FormError} (label opened lines end : List ℕ) → e ≡ NoEnd → HasLabel text label opened
       → SplitsRound opened (codes "-----END ") lines end → ¬ Contains end (codes "-----") → BreaksBlock text e
-  other_label : {e : FormError} (block label opened lines end last rest : List ℕ) → e ≡ LabelsDiffer
-      → OpensBlock text block → SplitsRound block (codes "-----") label opened
-      → SplitsRound opened (codes "-----END ") lines end → SplitsRound end (codes "-----") last rest → last ≢ label
-      → BreaksBlock text e
+  other_label : {e : FormError} (label opened lines end last rest : List ℕ) → e ≡ LabelsDiffer
+      → HasLabel text label opened → SplitsRound opened (codes "-----END ") lines end
+      → SplitsRound end (codes "-----") last rest → last ≢ label → BreaksBlock text e
 
 -- the lines of a block have the header of encrypted ones (RFC 1421 4.6.1.1)
 abbrev pub IsEncrypted : List ℕ → Type 0

@@ -1,10 +1,10 @@
 //! Blocks of PEM (RFC 7468), with text around them.
-ghost use Rattle.std.specs.Prelude.{◌≡◌, ◌↔◌, ◌+◌, ◌≤◌, ◌++◌, ◌||◌, length, drop, codes};
+ghost use Rattle.std.specs.Prelude.{◌≡◌, ◌↔◌, ◌+◌, ◌≤◌, ◌||◌, length, drop, codes};
 ghost use Rattle.std.specs.Prelude.{IfErr, IfOk, IfSome, IsTrue, MatchOption};
 ghost use Rattle.bstr.specs.Find.{FindsNeedle};
 ghost use Rattle.bstr.specs.Text.{Contains};
-ghost use Rattle.der_input.specs.Blocks.{BeginsWithBlock, BreaksBlock, HasNoLabel, IsEncrypted, OpensBlock};
-ghost use Rattle.der_input.specs.Blocks.{RefusesLines, SpellsLines, SplitsRound};
+ghost use Rattle.der_input.specs.Blocks.{BeginsWithBlock, BreaksBlock, HasLabel, HasNoLabel, IsEncrypted};
+ghost use Rattle.der_input.specs.Blocks.{OpensBlock, RefusesLines, SpellsLines, SplitsRound};
 ghost use Rattle.der_input.specs.Blocks.{begins_here, begins_line, begins_string, ends_line, first_begin, is_indent};
 ghost use Rattle.der_input.specs.Blocks.{label_of, lines_of};
 ghost use Rattle.der_input.specs.Forms.{HasNoBlock};
@@ -98,8 +98,7 @@ pub fn next_block(text: &[u8]) -> Result<Option<(Block<'_>, &[u8])>, FormError>
 /// The label of the first block of a text, and what follows its dashes, even if the block doesn't end. None if no block
 /// begins, or no dashes follow.
 pub fn first_label(text: &[u8]) -> Option<(&[u8], &[u8])>
-    ensures { MatchOption result (HasNoLabel text.now)
-        (λ x. OpensBlock text.now (x.0.now ++ (codes "-----" ++ x.1.now))) }
+    ensures { MatchOption result (HasNoLabel text.now) (λ x. HasLabel text.now x.0.now x.1.now) }
 {
     let block = open_block(text)?;
     split_round(block, DASHES)
