@@ -2,21 +2,13 @@
 use Rattle.std.specs.Borrow.{Bor}
 use Rattle.std.specs.Prelude.{ℕ, ◌+◌, ◌-◌, List, length, Bool, true, false, if◌then◌else◌}
 use Rattle.der_base.specs.declared.any.Any.{Any}
-use Rattle.der_base.specs.declared.header.Class.{Class}
-use Rattle.der_base.specs.declared.header.Class.TheVariants.{Universal, Application, ContextSpecific, Private}
 use Rattle.der_base.specs.declared.header.Header.{Header}
 use Rattle.der_base.specs.declared.header.Length.{Length}
 use Rattle.der_base.specs.declared.header.Length.TheVariants.{Definite, Indefinite}
+pub use Rattle.der_base.specs.Octets.{class_number}
 use Rattle.der_base.specs.Header.{class_of, is_constructed, length_of, number_of}
 use Rattle.der_nodes.specs.declared.element.Element.{Element}
 use Rattle.c_values.specs.declared.element.DmElement.{DmElement}
-
--- the number of a class in the first two bits of an identifier octet (X.690 8.1.2.2)
-abbrev pub class_number : Class → ℕ
-class_number Universal = 0
-class_number Application = 1
-class_number ContextSpecific = 2
-class_number Private = 3
 
 abbrev pub bit : Bool → ℕ
 bit true = 1

@@ -1,10 +1,10 @@
 -- Rows that are written one after another.
-use Rattle.std.proofs.Common.{◌≡◌, ℕ, zero, suc, ◌+◌, ◌-◌, ◌<◌, ◌≤◌, ◌⊎◌, ◌==◌, if◌then◌else◌, List, [], ◌∷◌, ◌++◌, length, map, take, sym, ap, ◌∙◌, arith, refl, inl, inr, append_assoc, length-append, set, get_or, replicate}
+use Rattle.std.proofs.Common.{◌≡◌, ℕ, zero, suc, ◌+◌, ◌-◌, ◌<◌, ◌≤◌, ◌⊎◌, ◌==◌, if◌then◌else◌, List, [], ◌∷◌, ◌++◌, length, take, sym, ap, ◌∙◌, arith, refl, inl, inr, append_assoc, length-append, set, get_or, replicate}
 use Rattle.std.proofs.lemmas.Bool.Decides.{eqb_tells}
-use Rattle.std.proofs.lemmas.List.{take_all, take_more_set, take-append-le, map-append, append-nil, set_past, length-set, get_or-replicate, get_or-set_same, get_or-set_other, length-replicate}
+use Rattle.std.proofs.lemmas.List.{take_all, take_more_set, take-append-le, append-nil, set_past, length-set, get_or-replicate, get_or-set_same, get_or-set_other, length-replicate}
 use Rattle.der_walk.specs.Visits.{Visited}
 use Rattle.page_texts.specs.declared.row.PageRow.{PageRow}
-use Rattle.page_texts.specs.Rows.{AreRows, Entry, around_in, entries_after, entry_after, entry_in, last_with}
+use Rattle.page_texts.specs.Rows.{AreRows, around_in, last_with, row_after, rows_after}
 
 below_or_not : (n m : ℕ) → (n < m) ⊎ (m ≤ n)
 below_or_not n zero = inr (omega arith)
@@ -12,51 +12,50 @@ below_or_not zero (suc m) = inl (omega arith)
 below_or_not (suc n) (suc m) = elim (below_or_not n m) [ inl h ↦ inl (omega (arith, h)) | inr h ↦ inr (omega (arith, h)) ]
 
 pub rows_none : (rows : List PageRow) → AreRows [] rows 0
-unfolding entries_after
+unfolding rows_after
 rows_none rows = (refl, sym (take_all (length rows) [] (omega arith)))
 
-length-entries : (before vs : List Visited) → length (entries_after before vs) ≡ length vs
-unfolding entries_after
-length-entries before [] = refl
-length-entries before (v ∷ vs) = omega (arith, length-entries (before ++ v ∷ []) vs)
+length-rows : (before vs : List Visited) → length (rows_after before vs) ≡ length vs
+unfolding rows_after
+length-rows before [] = refl
+length-rows before (v ∷ vs) = omega (arith, length-rows (before ++ v ∷ []) vs)
 
 -- one more at the end
-entries_more : (before vs : List Visited) (v : Visited) → entries_after before (vs ++ v ∷ []) ≡ entries_after before vs ++ entry_after (before ++ vs) v ∷ []
-unfolding entries_after
-entries_more before [] v = ap (λ l. entry_after l v ∷ []) (sym (append-nil before))
-entries_more before (u ∷ vs) v =
-    ap (λ l. entry_after before u ∷ l) (entries_more (before ++ u ∷ []) vs v ∙ ap (λ l. entries_after (before ++ u ∷ []) vs ++ entry_after l v ∷ []) (append_assoc before (u ∷ []) vs))
+one_row_more : (before vs : List Visited) (v : Visited) → rows_after before (vs ++ v ∷ []) ≡ rows_after before vs ++ row_after (before ++ vs) v ∷ []
+unfolding rows_after
+one_row_more before [] v = ap (λ l. row_after l v ∷ []) (sym (append-nil before))
+one_row_more before (u ∷ vs) v =
+    ap (λ l. row_after before u ∷ l) (one_row_more (before ++ u ∷ []) vs v ∙ ap (λ l. rows_after (before ++ u ∷ []) vs ++ row_after l v ∷ []) (append_assoc before (u ∷ []) vs))
 
 -- a row after the others, if there is room
-more_rows : (es : List Entry) (rows : List PageRow) (n : ℕ) (row : PageRow) → n ≡ length es → map entry_in (take n rows) ≡ take (length rows) es
-    → map entry_in (take (n + 1) (set rows n row)) ≡ take (length (set rows n row)) (es ++ entry_in row ∷ [])
-more_rows es rows n row e h =
-    let v = entry_in row in
-    let size : length (es ++ v ∷ []) ≡ length es + 1 = length-append es (v ∷ []) in
+more_rows : (all rows : List PageRow) (n : ℕ) (row : PageRow) → n ≡ length all → take n rows ≡ take (length rows) all
+    → take (n + 1) (set rows n row) ≡ take (length (set rows n row)) (all ++ row ∷ [])
+more_rows all rows n row e h =
+    let size : length (all ++ row ∷ []) ≡ length all + 1 = length-append all (row ∷ []) in
     let same : length (set rows n row) ≡ length rows = length-set rows n row in
     elim (below_or_not n (length rows)) [
       | inl room ↦ (
-          ap (map entry_in) (take_more_set rows n row room) ∙ map-append entry_in (take n rows) (row ∷ [])
-          ∙ ap (λ us. us ++ v ∷ []) (h ∙ take_all (length rows) es (omega (arith, e, room)))
-          ∙ sym (take_all (length (set rows n row)) (es ++ v ∷ []) (omega (arith, e, room, size, same)))
+          take_more_set rows n row room
+          ∙ ap (λ us. us ++ row ∷ []) (h ∙ take_all (length rows) all (omega (arith, e, room)))
+          ∙ sym (take_all (length (set rows n row)) (all ++ row ∷ []) (omega (arith, e, room, size, same)))
           )
       | inr full ↦ (
-          ap (λ rs. map entry_in (take (n + 1) rs)) (set_past rows n row full)
-          ∙ ap (map entry_in) (take_all (n + 1) rows (omega (arith, full)))
-          ∙ sym (ap (map entry_in) (take_all n rows full)) ∙ h
-          ∙ sym (take-append-le (length rows) es (v ∷ []) (omega (arith, e, full)))
-          ∙ ap (λ k. take k (es ++ v ∷ [])) (sym same)
+          ap (take (n + 1)) (set_past rows n row full)
+          ∙ take_all (n + 1) rows (omega (arith, full))
+          ∙ sym (take_all n rows full) ∙ h
+          ∙ sym (take-append-le (length rows) all (row ∷ []) (omega (arith, e, full)))
+          ∙ ap (λ k. take k (all ++ row ∷ [])) (sym same)
           )
     ]
 
-pub rows_more : (vs : List Visited) (rows : List PageRow) (n : ℕ) (row : PageRow) (v : Visited) → AreRows vs rows n → entry_in row ≡ entry_after vs v
+pub rows_more : (vs : List Visited) (rows : List PageRow) (n : ℕ) (row : PageRow) (v : Visited) → AreRows vs rows n → row ≡ row_after vs v
     → AreRows (vs ++ v ∷ []) (set rows n row) (n + 1)
 rows_more vs rows n row v h e =
-    let es = entries_after [] vs in
-    let all : entries_after [] (vs ++ v ∷ []) ≡ es ++ entry_in row ∷ [] = entries_more [] vs v ∙ ap (λ z. es ++ z ∷ []) (sym e) in
-    let size = length-entries [] vs in (
+    let before = rows_after [] vs in
+    let all : rows_after [] (vs ++ v ∷ []) ≡ before ++ row ∷ [] = one_row_more [] vs v ∙ ap (λ z. before ++ z ∷ []) (sym e) in
+    let size = length-rows [] vs in (
       omega (arith, h.0, length-append vs (v ∷ [])),
-      more_rows es rows n row (h.0 ∙ sym size) h.1 ∙ ap (λ l. take (length (set rows n row)) l) (sym all),
+      more_rows before rows n row (h.0 ∙ sym size) h.1 ∙ ap (λ l. take (length (set rows n row)) l) (sym all),
     )
 
 last_more : (k l n : ℕ) (vs : List Visited) (v : Visited) → last_with k l n (vs ++ v ∷ []) ≡ (if v.depth == k then suc (n + length vs) else last_with k l n vs)

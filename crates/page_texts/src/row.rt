@@ -1,6 +1,7 @@
 //! Elements as rows of numbers.
-ghost use Rattle.std.specs.Prelude.{◌≡◌, ◌==◌};
-ghost use Rattle.page_texts.specs.Rows.{class_numbered, holds_numbered};
+ghost use Rattle.std.specs.Prelude.{◌≡◌};
+ghost use Rattle.der_base.specs.Octets.{class_number};
+ghost use Rattle.page_texts.specs.Rows.{class_numbered, holds_number, holds_numbered};
 
 use der_base::header::Class;
 use der_walk::{Element, Rules, Step, TypeName};
@@ -37,15 +38,11 @@ pub struct PageRow {
 
 impl PageRow {
     ghost use Rattle.der_walk.specs.Walked.{visited_of};
-    ghost use Rattle.page_texts.specs.Rows.{entry_in, visited_in};
+    ghost use Rattle.page_texts.specs.Rows.{row_of, visited_in};
 
     /// The row of an element inside the element with the row `around`.
     pub(crate) fn new(element: &Element<'_>, around: usize) -> PageRow
-        ensures { entry_in result ≡ record {
-          visited = visited_of element.now;
-          index = element.now.index;
-          around = around;
-        } }
+        ensures { result ≡ row_of (visited_of element.now) element.now.index around }
     {
         PageRow {
             offset: element.offset,
@@ -56,10 +53,10 @@ impl PageRow {
             around,
             number: element.number,
             tag_class: class_number(element.class),
-            constructed: bit(element.constructed),
-            definite: bit(element.length.is_some()),
+            constructed: u8::from(element.constructed),
+            definite: u8::from(element.length.is_some()),
             holds: holds_number(element.holds),
-            breaks_its_type: bit(element.breaks_its_type),
+            breaks_its_type: u8::from(element.breaks_its_type),
         }
     }
 
@@ -113,7 +110,7 @@ fn content_at(input: &[u8], begin: usize, length: Option<usize>) -> Option<&[u8]
 
 /// The number of a class, as in the first two bits of an identifier octet (X.690 8.1.2.2).
 fn class_number(class: Class) -> u8
-    ensures { class_numbered result ≡ class }
+    ensures { result ≡ class_number class }
 {
     match class {
         Class::Universal => 0,
@@ -137,7 +134,7 @@ fn class_numbered(number: u8) -> Class
 
 /// The number of the rules by which a string holds an element.
 fn holds_number(holds: Option<Rules>) -> u8
-    ensures { holds_numbered result ≡ holds }
+    ensures { result ≡ holds_number holds }
 {
     match holds {
         None => 0,
@@ -155,11 +152,4 @@ fn holds_numbered(number: u8) -> Option<Rules>
         1 => Some(Rules::Der),
         _ => Some(Rules::Ber),
     }
-}
-
-/// 1 for true, and 0 for false.
-fn bit(b: bool) -> u8
-    ensures { (result == 1) ≡ b }
-{
-    if b { 1 } else { 0 }
 }

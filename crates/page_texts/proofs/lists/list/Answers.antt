@@ -6,7 +6,7 @@ use Rattle.der_walk.specs.Walked.{VisitsNext, index_in, visited_of}
 use Rattle.der_walk.proofs.Steps.{within}
 use Rattle.page_texts.specs.declared.row.PageRow.{PageRow}
 use Rattle.page_texts.specs.Listed.{all_extras}
-use Rattle.page_texts.specs.Rows.{AreRows, entry_after, entry_in}
+use Rattle.page_texts.specs.Rows.{AreRows, row_after, row_of}
 use Rattle.page_texts.proofs.Listing.{AreLast, around_is, last_none, last_set, rows_none, rows_more}
 use Rattle.page_texts.proofs.lists.list.Goals as goal
 
@@ -33,9 +33,9 @@ elements-preserved c =
     let next = subst P (c.in-Ok-Some.is ∙ ap (λ o. Ok o) c.in-Ok-Some.field-0-is) (c.next_element.ensures.visits all_extras c.args.rules c.args.input.now so_far.0 so_far.1) in
     let S : List PageRow → Type 0 = λ rows. AreRows (so_far.0 ++ v ∷ []) rows (n + 1) in
     let around = c.around.ensures ∙ around_is c.elements.last.rows so_far.0 c.in-Ok-Some.element.depth so_far.3 next.3 in
-    let entry : entry_in row ≡ entry_after so_far.0 v = c.new-row.ensures ∙ ap (λ m. record { visited = v; index = m; around = c.around.result }) next.2 ∙ ap (λ m. record { visited = v; index = index_in v.depth so_far.0; around = m }) around in
+    let is : row ≡ row_after so_far.0 v = c.new-row.ensures ∙ ap (λ m. row_of v m c.around.result) next.2 ∙ ap (row_of v (index_in v.depth so_far.0)) around in
     let last = last_set c.elements.last.rows so_far.0 v c.in-Ok-Some.element.depth n so_far.3 refl so_far.2.0 in
-    (so_far.0 ++ v ∷ [], next.0, subst S (sym c.put_row.ensures) (rows_more so_far.0 c.elements.rows n row v so_far.2 entry), subst (λ l. AreLast l (so_far.0 ++ v ∷ [])) (sym c.set.ensures) last)
+    (so_far.0 ++ v ∷ [], next.0, subst S (sym c.put_row.ensures) (rows_more so_far.0 c.elements.rows n row v so_far.2 is), subst (λ l. AreLast l (so_far.0 ++ v ∷ [])) (sym c.set.ensures) last)
 
 pub returns-in-Err : goal.returns-in-Err
 returns-in-Err c =
