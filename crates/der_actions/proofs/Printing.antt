@@ -2,24 +2,29 @@
 use Rattle.std.proofs.Common.{◌≡◌, ◌⊎◌, inl, inr, ℕ, MatchBool, false, true, Bool, Err, IfOk, IsTrue, Ok, OnOk, Option, Result, List, [], ◌∷◌, ◌++◌, codes, refl, subst, sym}
 use Rattle.std.proofs.KnownBytes.{Appends-kept, Appends-nil, Appends-trans}
 use Rattle.std.specs.Io.KnownBytes.{Appends, Keeps}
-use Rattle.der_print.specs.Lines.{IsLineOf as IsTreeLine, content_in}
+use Rattle.der_fields.specs.declared.secrets.Exposure.{Exposure}
+use Rattle.der_fields.specs.declared.secrets.Exposure.TheVariants.{Full, Outline, Nothing}
+use Rattle.der_fields.specs.Lines.{AddsExposed}
+use Rattle.der_fields.proofs.FieldLaws.{exposed_in}
+use Rattle.der_print.specs.Lines.{content_in}
 use Rattle.der_print.specs.Names.{table_of}
 use Rattle.der_print.specs.Texts.{content_of}
-use Rattle.der_print.proofs.LineLaws.{content_is, line_of}
+use Rattle.der_print.proofs.LineLaws.{content_is}
 use Rattle.der_schema.specs.declared.schema.Schema.{Schema}
 use Rattle.der_walk.specs.declared.element.Element.{Element}
 use Rattle.der_walk.specs.declared.walk.Walk.{Walk}
 use Rattle.der_walk.specs.Visits.{Visited, Visits}
 use Rattle.der_walk.specs.Walked.{HasOctets, HasVisited, visited_of}
+use Rattle.der_actions.specs.declared.fields.Field.{Field}
 use Rattle.der_actions.specs.declared.fields.Fields.{Fields}
 use Rattle.der_actions.specs.declared.listing.Listing.{Listing}
 use Rattle.der_actions.specs.declared.options.Options.{Options}
 use Rattle.der_actions.specs.declared.print.Lines.{Lines}
 use Rattle.der_actions.specs.declared.print.Lines.TheVariants as kind
 use Rattle.der_actions.specs.Choices.{HasChosen, Listed, listed_after}
-use Rattle.der_actions.specs.FieldNames.{HasNamedBy}
+use Rattle.der_actions.specs.FieldNames.{HasNamedBy, IsFieldIn}
 use Rattle.der_actions.specs.Namings.{IsAsAsked, IsNamedBy, field_in}
-use Rattle.der_actions.specs.Outputs.{AddsLineOf, AreLinesOf, EndsAfter, RefusesLines, WritesLines, extras_of, no_lines, one_more_line}
+use Rattle.der_actions.specs.Outputs.{AddsExposedJson, AddsLineOf, IsExposedJson, IsLineBy, AreLinesOf, EndsAfter, RefusesLines, WritesLines, extras_of, no_lines, one_more_line}
 
 -- what follows at Ok
 pub on_ok : {E : Type 0} (r : Result (Unit {0}) E) (P Q : Type 0) → (P → Q) → OnOk r P → OnOk r Q
@@ -65,23 +70,48 @@ pub record HasOneMore (k : Lines) (s : Option Schema) (o : Options) (i : List �
   pub lines : AreLinesOf k s o i (us ++ l ∷ []) (text ++ line)
   pub adds : Appends mid new line
 
-one_more : (k : Lines) (s : Option Schema) (o : Options) (i : List ℕ) (us : List Listed) (vs : List Visited) (e : Element) (field text : List ℕ)
-    (mid new : Option (List ℕ)) → HasOctets i e → field ≡ field_in s i vs (visited_of e) → AreLinesOf k s o i us text
-    → AddsLineOf k field o (visited_of e) (content_of e) mid new
-    → HasOneMore k s o i us (listed_after vs (visited_of e)) text mid new
-one_more kind.Tree s o i us vs e field text mid new octets same lines l =
-    let v = visited_of e in
-    let line = line_of o.style v (content_of e) (content_in i v) l.line (content_is i e octets) l.is_line in
-    record {
-      line = l.line;
-      lines = one_more_line (listed_after vs v) l.line lines (subst (λ f. IsTreeLine (table_of o.own_names) f o.style v (content_in i v) l.line) same line);
-      adds = l.adds;
-    }
-one_more kind.Json s o i us vs e field text mid new octets same lines l = record {
+-- a line that was added is that of the element in the input
+record HasLine (k : Lines) (field : List ℕ) (o : Options) (i : List ℕ) (v : Visited) (x : Exposure) (mid new : Option (List ℕ)) : Type 0 where
+  line : List ℕ
+  is_line : IsLineBy k field o i v x line
+  adds : Appends mid new line
+
+json_line : (o : Options) (i : List ℕ) (e : Element) (field : List ℕ) (x : Exposure) (mid new : Option (List ℕ)) → HasOctets i e
+    → AddsExposedJson field o (visited_of e) (content_of e) x mid new → HasLine kind.Json field o i (visited_of e) x mid new
+json_line o i e field Full mid new octets l = record {
   line = l.text ++ codes "\n";
-  lines = one_more_line (listed_after vs (visited_of e)) (l.text ++ codes "\n") lines (l.text, l.is_json, refl);
+  is_line = (content_of e, content_is i e octets, (l.object, l.is, l.text, l.is_json, refl));
   adds = l.adds;
 }
+json_line o i e field Outline mid new octets l = record {
+  line = l.text ++ codes "\n";
+  is_line = (l.object, l.is, l.text, l.is_json, refl);
+  adds = l.adds;
+}
+json_line o i e field Nothing mid new octets l = record { line = []; is_line = refl; adds = subst (λ z. Appends mid z []) (sym l) (Appends-nil mid) }
+
+line_by : (k : Lines) (o : Options) (i : List ℕ) (e : Element) (field : List ℕ) (x : Exposure) (mid new : Option (List ℕ)) → HasOctets i e
+    → AddsLineOf k field o (visited_of e) (content_of e) x mid new → HasLine k field o i (visited_of e) x mid new
+line_by kind.Tree o i e field x mid new octets l = record {
+  line = l.line;
+  is_line = exposed_in (table_of o.own_names) o.style i e x field field l.line octets refl l.is_line;
+  adds = l.adds;
+}
+line_by kind.Json o i e field x mid new octets l = json_line o i e field x mid new octets l
+
+one_more : (k : Lines) (s : Option Schema) (o : Options) (i : List ℕ) (us : List Listed) (vs : List Visited) (e : Element) (f : Field) (text : List ℕ)
+    (mid new : Option (List ℕ)) → HasOctets i e → IsFieldIn s i vs (visited_of e) f → AreLinesOf k s o i us text
+    → AddsLineOf k f.name.now o (visited_of e) (content_of e) f.exposure mid new
+    → HasOneMore k s o i us (listed_after vs (visited_of e)) text mid new
+one_more k s o i us vs e f text mid new octets is lines l =
+    let v = visited_of e in
+    let m = line_by k o i e f.name.now f.exposure mid new octets l in
+    record {
+      line = m.line;
+      lines = one_more_line (listed_after vs v) m.line lines
+          (f.exposure, is.exposure, subst (λ n. IsLineBy k n o i v f.exposure m.line) is.name m.is_line);
+      adds = m.adds;
+    }
 
 -- known octets grew by a line for each listed element that the walk has visited
 pub record HasPrinted (k : Lines) (o : Options) (i : List ℕ) (w : Walk) (l : Listing) (f : Fields) (old new : Option (List ℕ)) : Type 0 where
@@ -113,12 +143,12 @@ printed_none k s old v h by n = record {
 }
 
 pub printed_more : {o : Options} {i : List ℕ} {w w' : Walk} {l l' : Listing} {f f' : Fields} {old mid new : Option (List ℕ)} (k : Lines) (e : Element)
-    (taken : Bool) (field : List ℕ) (p : HasPrinted k o i w l f old mid)
+    (taken : Bool) (field : Field) (p : HasPrinted k o i w l f old mid)
     → HasVisited (extras_of o) o.rules i w' (p.elements ++ visited_of e ∷ []) → HasOctets i e
-    → HasNamedBy p.schema i (p.elements ++ visited_of e ∷ []) f' → field ≡ field_in p.schema i p.elements (visited_of e)
+    → HasNamedBy p.schema i (p.elements ++ visited_of e ∷ []) f' → IsFieldIn p.schema i p.elements (visited_of e) field
     → MatchBool taken (HasChosen p.schema i o l' (p.elements ++ visited_of e ∷ []) (p.listed ++ listed_after p.elements (visited_of e) ∷ []))
     (HasChosen p.schema i o l' (p.elements ++ visited_of e ∷ []) p.listed)
-    → MatchBool taken (AddsLineOf k field o (visited_of e) (content_of e) mid new) (new ≡ mid) → HasPrinted k o i w' l' f' old new
+    → MatchBool taken (AddsLineOf k field.name.now o (visited_of e) (content_of e) field.exposure mid new) (new ≡ mid) → HasPrinted k o i w' l' f' old new
 printed_more {o = o} {i = i} {old = old} {mid = mid} {new = new} k e true field p visited octets named same chosen l =
     let m = one_more k p.schema o i p.listed p.elements e field p.text mid new octets same p.lines l in
     record {

@@ -1,7 +1,11 @@
 -- How far the fields of a walk are named.
 use Rattle.std.specs.Prelude.{◌≡◌, ℕ, Option, Some, None, List, map}
+use Rattle.der_actions.specs.declared.fields.Field.{Field}
 use Rattle.der_actions.specs.declared.fields.Fields.{Fields}
+use Rattle.der_actions.specs.Namings.{IsExposedBy, field_in}
 use Rattle.der_actions.specs.Paths.{labelled, labels_of}
+use Rattle.der_fields.specs.declared.secrets.Secrets.{Secrets}
+use Rattle.der_fields.specs.Secrets.{Follows}
 use Rattle.der_schema.specs.declared.name_path.NameStep.{NameStep}
 use Rattle.der_schema.specs.declared.namer.Namer.{Namer}
 use Rattle.der_schema.specs.declared.schema.Schema.{Schema}
@@ -21,6 +25,17 @@ abbrev pub HasStepsSo : Option Schema → List ℕ → List Visited → List Nam
 HasStepsSo None i vs steps = Unit {0}
 HasStepsSo (Some schema) i vs steps = map labelled steps ≡ labels_of (root_of schema) i vs
 
+-- the secret elements among them were followed, where there is a type
+abbrev pub HasFollowedSo : Option Schema → List ℕ → List Visited → Secrets → Type 0
+HasFollowedSo None i vs secrets = Unit {0}
+HasFollowedSo (Some schema) i vs secrets = Follows (root_of schema) i vs secrets
+
 pub record HasNamedBy (s : Option Schema) (i : List ℕ) (vs : List Visited) (f : Fields) : Type 0 where
   pub named : HasNamedSo s f.namer i vs
   pub steps : HasStepsSo s i vs f.path.steps.items
+  pub followed : HasFollowedSo s i vs f.secrets
+
+-- what the type says of the next element
+pub record IsFieldIn (s : Option Schema) (i : List ℕ) (before : List Visited) (v : Visited) (f : Field) : Type 0 where
+  pub name : f.name.now ≡ field_in s i before v
+  pub exposure : IsExposedBy s i before v f.exposure

@@ -5,7 +5,10 @@ use Rattle.der_actions.specs.declared.options.Action.{Action}
 use Rattle.der_actions.specs.declared.options.Action.TheVariants.{Tree, Check, Json, Canon, Get, Show}
 use Rattle.der_actions.specs.declared.options.Naming.{Naming}
 use Rattle.der_actions.specs.declared.options.Naming.TheVariants.{Unnamed, ByFirst, By}
+use Rattle.der_fields.specs.declared.secrets.Exposure.{Exposure}
+use Rattle.der_fields.specs.declared.secrets.Exposure.TheVariants.{Full}
 use Rattle.der_fields.specs.Fields.{label_after, label_text}
+use Rattle.der_fields.specs.Secrets.{IsExposure}
 use Rattle.der_known.specs.declared.known.KnownTypes.{KnownTypes}
 use Rattle.der_schema.specs.declared.known.KnownType.{KnownType}
 use Rattle.der_schema.specs.declared.schema.Component.{Component}
@@ -39,6 +42,11 @@ IsAsAsked (By schema) r i = IsOfType (root_of schema) r i
 abbrev pub field_in : Option Schema → List ℕ → List Visited → Visited → List ℕ
 field_in None i before v = []
 field_in (Some schema) i before v = label_text (label_after (root_of schema) i before v)
+
+-- how much may be printed of it: what the type lets, and all if there is none
+abbrev pub IsExposedBy : Option Schema → List ℕ → List Visited → Visited → Exposure → Type 0
+IsExposedBy None i before v x = x ≡ Full
+IsExposedBy (Some schema) i before v x = IsExposure (root_of schema) i before v x
 
 -- a name that is a member of JSON: none if it is empty
 abbrev pub field_member : List ℕ → Option (List ℕ)

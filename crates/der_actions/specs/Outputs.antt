@@ -1,5 +1,5 @@
 -- What is written of octets: of those that are read to their end, and of those that are refused.
-use Rattle.std.specs.Prelude.{◌≡◌, ◌≢◌, ◌⊎◌, ℕ, true, Option, List, [], ◌∷◌, ◌++◌, codes}
+use Rattle.std.specs.Prelude.{◌≡◌, ◌≢◌, ◌⊎◌, ℕ, true, false, Option, option_map, List, [], ◌∷◌, ◌++◌, codes}
 use Rattle.std.specs.Io.KnownBytes.{Appends, Keeps}
 use Rattle.der_base.specs.declared.rules.Rules.{Rules}
 use Rattle.der_canon.specs.declared.error.CanonError.TheVariants as canon
@@ -7,15 +7,19 @@ use Rattle.der_canon.specs.declared.error.NotCanonical.{NotCanonical}
 use Rattle.der_canon.specs.Errors.{IsCanonErrorOf}
 use Rattle.der_canon.specs.Written.{IsDerOf}
 use Rattle.der_check.specs.Elements.{AreElements}
-use Rattle.der_json.specs.Json.{AddsJson, IsJson}
-use Rattle.der_print.specs.Lines.{AddsLineOf as AddsTreeLine, IsLineOf as IsTreeLine, content_in}
+use Rattle.der_fields.specs.declared.secrets.Exposure.{Exposure}
+use Rattle.der_fields.specs.declared.secrets.Exposure.TheVariants.{Full, Outline, Nothing}
+use Rattle.der_fields.specs.Lines.{AddsExposed, IsExposed}
+use Rattle.der_json.specs.declared.object.Object.{Object}
+use Rattle.der_json.specs.Json.{AddsJson, IsJsonOf, IsObjectOf, IsOutlineOf}
+use Rattle.der_print.specs.Lines.{content_in}
 use Rattle.der_print.specs.Names.{table_of}
 use Rattle.der_schema.specs.declared.schema.Schema.{Schema}
 use Rattle.der_actions.specs.declared.options.Options.{Options}
 use Rattle.der_actions.specs.declared.print.Lines.{Lines}
 use Rattle.der_actions.specs.declared.print.Lines.TheVariants as kind
 use Rattle.der_actions.specs.Choices.{AreListed, Listed}
-use Rattle.der_actions.specs.Namings.{IsAsAsked, IsNamedBy, field_in}
+use Rattle.der_actions.specs.Namings.{IsAsAsked, IsExposedBy, IsNamedBy, field_in, field_member}
 use Rattle.der_actions.specs.Parts.{AreOctetsOf, AreWrittenOf}
 use Rattle.der_actions.specs.Pem.{IsPem}
 use Rattle.der_actions.specs.Places.{AreNotAsked, IsAsked}
@@ -36,16 +40,39 @@ AreSomeElements r i = AreElements r 101 i × (i ≢ [])
 abbrev pub IsChecked : Options → List ℕ → Type 0
 IsChecked o i = AreSomeElements o.rules i × IsAsAsked o.naming o.rules i
 
--- an object of JSON and the line's end
-abbrev pub IsJsonLine : List ℕ → Type 0
-IsJsonLine line = (text : List ℕ) × IsJson text × (line ≡ text ++ codes "\n")
+-- an object with this name of a field
+abbrev pub HasField : List ℕ → Object → Type 0
+HasField field x = option_map (λ w. w.now) x.field ≡ field_member field
 
--- the line of a listed element of an input; in a tree with the name of its field by a type, if there is one, and names
--- of identifiers of the table that is asked for, if one is
+-- the object of an element with this content
+abbrev pub IsFullObject : List ℕ → Options → Visited → List ℕ → Object → Type 0
+IsFullObject field o v w x = HasField field x × IsObjectOf (table_of o.own_names) v w x
+
+-- the object of an element that is secret, which says nothing of the content
+abbrev pub IsSecretObject : List ℕ → Visited → Object → Type 0
+IsSecretObject field v x = HasField field x × IsOutlineOf v x
+
+-- the line of an object for which P holds
+abbrev pub IsJsonLine : (Object → Type 0) → List ℕ → Type 0
+IsJsonLine P line = (x : Object) × P x × (text : List ℕ) × IsJsonOf x text × (line ≡ text ++ codes "\n")
+
+-- the line of JSON of an element as far as it may be printed; a primitive one has its content
+abbrev pub IsExposedJson : List ℕ → Options → List ℕ → Visited → Exposure → List ℕ → Type 0
+IsExposedJson field o i v Full line = (w : List ℕ) × (v.constructed ≡ false → w ≡ content_in i v)
+    × IsJsonLine (IsFullObject field o v w) line
+IsExposedJson field o i v Outline line = IsJsonLine (IsSecretObject field v) line
+IsExposedJson field o i v Nothing line = line ≡ []
+
+-- the line of an element as far as it may be printed, with the name of its field, and names of identifiers of the table
+-- that is asked for, if one is
+abbrev pub IsLineBy : Lines → List ℕ → Options → List ℕ → Visited → Exposure → List ℕ → Type 0
+IsLineBy kind.Tree field o i v x line = IsExposed (table_of o.own_names) field o.style v (content_in i v) x line
+IsLineBy kind.Json field o i v x line = IsExposedJson field o i v x line
+
+-- the line of a listed element of an input, by the type, if there is one
 abbrev pub IsLineOf : Lines → Option Schema → Options → List ℕ → Listed → List ℕ → Type 0
-IsLineOf kind.Tree s o i l line = IsTreeLine (table_of o.own_names) (field_in s i l.before l.element) o.style l.element
-    (content_in i l.element) line
-IsLineOf kind.Json s o i l line = IsJsonLine line
+IsLineOf k s o i l line = (x : Exposure) × IsExposedBy s i l.before l.element x
+    × IsLineBy k (field_in s i l.before l.element) o i l.element x line
 
 -- a line for each of the listed elements of an input, in their order
 pub data AreLinesOf (k : Lines) (s : Option Schema) (o : Options) (i : List ℕ)
@@ -54,10 +81,18 @@ pub data AreLinesOf (k : Lines) (s : Option Schema) (o : Options) (i : List ℕ)
   one_more_line : {us : List Listed} {text : List ℕ} (l : Listed) (line : List ℕ) → AreLinesOf k s o i us text
       → IsLineOf k s o i l line → AreLinesOf k s o i (us ++ l ∷ []) (text ++ line)
 
--- known octets grew by the line of an element with this content, which is a field of this name
-abbrev pub AddsLineOf : Lines → List ℕ → Options → Visited → List ℕ → Option (List ℕ) → Option (List ℕ) → Type 0
-AddsLineOf kind.Tree field o v w old new = AddsTreeLine (table_of o.own_names) field o.style v w old new
-AddsLineOf kind.Json field o v w old new = AddsJson old new
+-- known octets grew by the line of JSON of an element with this content, as far as it may be printed
+abbrev pub AddsExposedJson : List ℕ → Options → Visited → List ℕ → Exposure → Option (List ℕ) → Option (List ℕ)
+    → Type 0
+AddsExposedJson field o v w Full old new = AddsJson (IsFullObject field o v w) old new
+AddsExposedJson field o v w Outline old new = AddsJson (IsSecretObject field v) old new
+AddsExposedJson field o v w Nothing old new = new ≡ old
+
+-- known octets grew by its line
+abbrev pub AddsLineOf : Lines → List ℕ → Options → Visited → List ℕ → Exposure → Option (List ℕ) → Option (List ℕ)
+    → Type 0
+AddsLineOf kind.Tree field o v w x old new = AddsExposed (table_of o.own_names) field o.style v w x old new
+AddsLineOf kind.Json field o v w x old new = AddsExposedJson field o v w x old new
 
 -- known octets grew by a line for each listed one, one at least, of the elements that the input is, in preorder; it is
 -- of the type that is asked for, if one is

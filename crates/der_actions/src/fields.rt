@@ -1,9 +1,8 @@
 //! The names of the fields that elements are, and the paths made of them.
 ghost use Rattle.std.specs.Prelude.{◌≡◌, ◌≤◌, ◌↔◌, ◌∷◌, ◌++◌, [], IfOk, IsTrue, List, Option, ℕ, option_map};
 ghost use Rattle.std.specs.Prelude.{string_bytes, take};
-ghost use Rattle.der_actions.specs.FieldNames.{HasNamedBy, HasNamedSo};
+ghost use Rattle.der_actions.specs.FieldNames.{HasNamedBy, HasNamedSo, IsFieldIn};
 ghost use Rattle.der_actions.specs.Paths.{HasNamePath, IsNamePathOf};
-ghost use Rattle.der_actions.specs.Namings.{field_in};
 ghost use Rattle.der_fields.specs.Fields.{label_text};
 ghost use Rattle.der_schema.specs.declared.schema.Schema.{Schema};
 ghost use Rattle.der_schema.specs.NamePaths.{name_path_text, name_step};
@@ -11,14 +10,25 @@ ghost use Rattle.der_schema.specs.Steps.{label_of};
 ghost use Rattle.der_walk.specs.Visits.{Visited};
 ghost use Rattle.der_walk.specs.Walked.{index_in, visited_of};
 
+use der_fields::{Exposure, Secrets};
 use der_schema::{Name, NamePath, Namer, Schema};
 use der_walk::{Element, MAX_DEPTH};
 use std::alloc::{AllocError, Global};
+
+/// What a type says of an element.
+#[derive(Clone, Copy)]
+pub(crate) struct Field {
+    /// The name of the field that it is. It is empty if the type has none for it.
+    pub name: &'static str,
+    /// How much may be printed of it.
+    pub exposure: Exposure,
+}
 
 /// Names the elements of a walk by a type, or none of them without one.
 #[derive(Drop)]
 pub(crate) struct Fields<'a> {
     namer: Option<Namer<'a>>,
+    secrets: Secrets,
     /// The path made of names to the element that was visited last.
     path: NamePath,
 }
@@ -30,25 +40,31 @@ impl<'a> Fields<'a> {
     {
         Fields {
             namer: namer_of(input, schema),
+            secrets: Secrets::new(),
             path: NamePath::new(),
         }
     }
 
-    /// Goes on to the element that is visited next, and returns the name of the field that it is. The name is empty if
-    /// the type has none for it.
-    pub(crate) fn name_of(&mut self, element: &Element<'_>) -> &'static str
+    /// Goes on to the element that is visited next, and returns what the type says of it.
+    pub(crate) fn field_of(&mut self, element: &Element<'_>) -> Field
         ensures { (s : Option Schema) (i : List ℕ) (vs : List Visited) → HasNamedBy s i vs self.old
             → element.now.depth ≤ 100 → element.now.index ≡ index_in element.now.depth vs
             → let v = visited_of element.now in
-            HasNamedBy s i (vs ++ v ∷ []) self.new × (result.now ≡ field_in s i vs v) }
+            HasNamedBy s i (vs ++ v ∷ []) self.new × IsFieldIn s i vs v result }
     {
         match &mut self.namer {
             Some(namer) => {
                 let name = namer.name_of(element);
                 enter(&mut self.path, element, name);
-                text_of(name)
+                Field {
+                    name: text_of(name),
+                    exposure: self.secrets.pass(element, name),
+                }
             }
-            None => "",
+            None => Field {
+                name: "",
+                exposure: Exposure::Full,
+            },
         }
     }
 

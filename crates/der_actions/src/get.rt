@@ -61,7 +61,7 @@ fn write_first<W: Write, X: Write>(
         match walk.next_element() {
             Ok(Some(element)) => {
                 trail.enter(&element)?;
-                fields.name_of(&element);
+                fields.field_of(&element);
                 let asked = is_asked(alloc, options.place, &element, &trail, &fields)?;
                 if asked {
                     return write_octets(options, origin, octets, &element, out, err);

@@ -1,21 +1,21 @@
 //! The elements of an input as lines.
 ghost use Rattle.std.specs.Prelude.{◌≡◌, IfOk, IsTrue, MatchBool, OnOk, false};
-ghost use Rattle.der_json.specs.Json.{AddsJson};
-ghost use Rattle.der_actions.specs.Outputs.{AddsLineOf, RefusesLines, WritesLines};
-ghost use Rattle.der_print.specs.Lines.{AddsLineOf as AddsTreeLine};
+ghost use Rattle.der_actions.specs.Outputs.{AddsExposedJson, AddsLineOf, RefusesLines, WritesLines};
+ghost use Rattle.der_fields.specs.Lines.{AddsExposed};
 ghost use Rattle.der_print.specs.Names.{table_of};
 ghost use Rattle.der_print.specs.Texts.{content_of};
 ghost use Rattle.der_walk.specs.Walked.{visited_of};
 
-use crate::fields::Fields;
+use crate::fields::{Field, Fields};
 use crate::listing::Listing;
 use crate::naming::schema_of;
 use crate::options::Options;
 use crate::origin::Origin;
 use crate::report::{report_end, report_refusal};
 use crate::source::{Names, source_of};
-use der_json::{Paths, write_json};
-use der_print::{Room, write_line_of};
+use der_fields::{Exposure, write_exposed};
+use der_json::{Paths, write_json, write_secret};
+use der_print::Room;
 use der_walk::{Element, Walk};
 use std::alloc::Global;
 use std::io;
@@ -35,8 +35,8 @@ pub enum Lines {
 struct Visit {
     /// Whether it is listed.
     is_listed: bool,
-    /// The name of the field that it is. It is empty if no type has one for it.
-    field: &'static str,
+    /// What the type says of it, if there is one.
+    field: Field,
 }
 
 /// Octets whose elements are printed.
@@ -85,7 +85,7 @@ pub fn print_lines<W: Write, X: Write>(
     'elements: loop {
         match walk.next_element() {
             Ok(Some(element)) => {
-                let field = fields.name_of(&element);
+                let field = fields.field_of(&element);
                 let is_listed = listing.takes(alloc, &element, &fields)?;
                 let visit = Visit { is_listed, field };
                 pass(
@@ -120,8 +120,8 @@ fn pass<W: Write>(
     out: &mut W,
 ) -> io::Result<()>
     ensures { OnOk result (MatchBool visit.is_listed
-        (AddsLineOf printed.entry.lines visit.field.now options.now (visited_of element.now)
-        (content_of element.now) (W.contents out.old) (W.contents out.new))
+        (AddsLineOf printed.entry.lines visit.field.name.now options.now (visited_of element.now)
+        (content_of element.now) visit.field.exposure (W.contents out.old) (W.contents out.new))
         (W.contents out.new ≡ W.contents out.old)) }
 {
     match printed.lines {
@@ -139,16 +139,16 @@ fn pass_in_tree<W: Write>(
     out: &mut W,
 ) -> io::Result<()>
     ensures { let o = options.now in OnOk result (MatchBool visit.is_listed
-        (AddsTreeLine (table_of o.own_names) visit.field.now o.style (visited_of element.now)
-        (content_of element.now) (W.contents out.old) (W.contents out.new))
+        (AddsExposed (table_of o.own_names) visit.field.name.now o.style (visited_of element.now)
+        (content_of element.now) visit.field.exposure (W.contents out.old) (W.contents out.new))
         (W.contents out.new ≡ W.contents out.old)) }
 {
     if !visit.is_listed {
         return Ok(());
     }
     let (style, own) = (options.style, options.own_names);
-    write_line_of(out, room, element, visit.field, style, own)?;
-    Ok(())
+    let field = visit.field;
+    write_exposed(out, room, element, field.name, field.exposure, style, own)
 }
 
 /// Goes on to the path of an element, and writes its object of JSON if it is listed.
@@ -162,33 +162,42 @@ fn pass_in_json<W: Write>(
     element: &Element<'_>,
     out: &mut W,
 ) -> io::Result<()>
-    ensures { OnOk result (MatchBool visit.is_listed (AddsJson (W.contents out.old) (W.contents out.new))
+    ensures { OnOk result (MatchBool visit.is_listed
+        (AddsExposedJson visit.field.name.now options.now (visited_of element.now) (content_of element.now)
+        visit.field.exposure (W.contents out.old) (W.contents out.new))
         (W.contents out.new ≡ W.contents out.old)) }
 {
     kept.paths.enter(alloc, element)?;
     if visit.is_listed {
         let field_path = fields.path(alloc)?;
+        let field = visit.field;
         let names = Names {
             path: kept.paths.last(),
-            field: visit.field,
+            field: field.name,
             field_path: &field_path,
         };
-        return write_object(alloc, options, printed, names, element, out);
+        return write_object(alloc, options, printed, names, field.exposure, element, out);
     }
     Ok(())
 }
 
-/// Writes an element as an object of JSON.
+/// Writes an element as an object of JSON, as far as it may be printed.
 fn write_object<W: Write>(
     alloc: Global,
     options: &Options<'_>,
     printed: Printed<'_>,
     names: Names<'_>,
+    exposure: Exposure,
     element: &Element<'_>,
     out: &mut W,
 ) -> io::Result<()>
-    ensures { OnOk result (AddsJson (W.contents out.old) (W.contents out.new)) }
+    ensures { OnOk result (AddsExposedJson names.entry.field.now options.now (visited_of element.now)
+        (content_of element.now) exposure (W.contents out.old) (W.contents out.new)) }
 {
     let source = source_of(options, printed.origin, names, printed.octets, element);
-    write_json(alloc, source, element, options.own_names, out)
+    match exposure {
+        Exposure::Full => write_json(alloc, source, element, options.own_names, out),
+        Exposure::Outline => write_secret(alloc, source, element, out),
+        Exposure::Nothing => Ok(()),
+    }
 }

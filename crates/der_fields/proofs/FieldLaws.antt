@@ -6,12 +6,16 @@ use Rattle.std.proofs.KnownBytes.{Appends-nil, Appends-trans}
 use Rattle.std.specs.Io.KnownBytes.{Appends}
 use Rattle.std.specs.Option.{is_some}
 use Rattle.der_base.specs.declared.rules.Rules.{Rules}
-use Rattle.der_fields.specs.Fields.{AreFieldLines, AreFieldLinesAfter, AreInType, LeavesAt, LeavesOrNot, label_after}
-use Rattle.der_fields.specs.Fields.{Fits, label_text, left_past, no_lines, one_more_line}
+use Rattle.der_fields.specs.Fields.{AreInType, Fits, LeavesAt, LeavesOrNot, label_after, label_text, left_past}
+use Rattle.der_fields.specs.Lines.{AddsExposed, AreFieldLines, AreFieldLinesAfter, IsExposed, IsLineAfter, no_lines, one_more_line}
+use Rattle.der_fields.specs.Secrets.{Follows, IsExposure}
+use Rattle.der_fields.specs.declared.secrets.Exposure.{Exposure}
+use Rattle.der_fields.specs.declared.secrets.Exposure.TheVariants.{Full, Outline, Nothing}
+use Rattle.der_fields.specs.declared.secrets.Secrets.{Secrets}
 use Rattle.der_fields.specs.declared.named.Named.{Named}
 use Rattle.der_fields.specs.declared.named.Named.TheVariants.{Whole, Lacks, Left, Refused}
 use Rattle.der_print.specs.declared.style.Style.{Style}
-use Rattle.der_print.specs.Lines.{AddsLineOf, IsLineOf, content_in}
+use Rattle.der_print.specs.Lines.{content_in}
 use Rattle.der_print.specs.Texts.{content_of}
 use Rattle.der_print.proofs.LineLaws.{content_is, line_of}
 use Rattle.der_schema.specs.declared.matching.Name.{Name}
@@ -34,19 +38,32 @@ use Rattle.oid_names.specs.OwnNames.{Named as NamedOctets}
 -- one more line
 lines_more : {sc : Root} {own : Option (List NamedOctets)} {style : Style} {i : List ℕ} {before vs : List Visited} {text : List ℕ} (v : Visited)
     (line : List ℕ) → AreFieldLinesAfter sc own style i before vs text
-    → IsLineOf own (label_text (label_after sc i (before ++ vs) v)) style v (content_in i v) line
+    → IsLineAfter sc own style i (before ++ vs) v line
     → AreFieldLinesAfter sc own style i before (vs ++ v ∷ []) (text ++ line)
 lines_more {sc} {own} {style} {i} {before} v line no_lines l =
     subst (AreFieldLinesAfter sc own style i before (v ∷ [])) (append-nil line)
     (one_more_line line []
-    (subst (λ us. IsLineOf own (label_text (label_after sc i us v)) style v (content_in i v) line) (append-nil before) l)
+    (subst (λ us. IsLineAfter sc own style i us v line) (append-nil before) l)
     no_lines)
 lines_more {sc} {own} {style} {i} {before} v line (one_more_line {vs = vs} {v = u} first rest k ks) l =
     subst (AreFieldLinesAfter sc own style i before (u ∷ vs ++ v ∷ [])) (sym (append_assoc first rest line))
     (one_more_line first (rest ++ line) k
     (lines_more v line ks
-    (subst (λ us. IsLineOf own (label_text (label_after sc i us v)) style v (content_in i v) line)
+    (subst (λ us. IsLineAfter sc own style i us v line)
     (sym (append_assoc before (u ∷ []) vs)) l)))
+
+-- the line of an element, whose content is that in the input
+pub exposed_in : (own : Option (List NamedOctets)) (style : Style) (i : List ℕ) (e : Element) (x : Exposure)
+    (field name line : List ℕ) → HasOctets i e → field ≡ name
+    → IsExposed own field style (visited_of e) (content_of e) x line
+    → IsExposed own name style (visited_of e) (content_in i (visited_of e)) x line
+exposed_in own style i e Full field name line octets same l =
+    let v = visited_of e in
+    subst (λ f. IsExposed own f style v (content_in i v) Full line) same
+    (line_of style v (content_of e) (content_in i v) line (content_is i e octets) l)
+exposed_in own style i e Outline field name line octets same l =
+    subst (λ f. IsExposed own f style (visited_of e) (content_of e) Outline line) same l
+exposed_in own style i e Nothing field name line octets same l = l
 
 -- what holds of each element after those before it, and of one more
 each_more : (P : List Visited → Visited → Type 0) (vs : List Visited) (v : Visited)
@@ -111,22 +128,25 @@ left_more sc r i w vs v (Some p) None e has h =
     record { leaves = leaves_before sc i vs v p h.leaves; names = h.names }
 
 -- known octets grew by a line for each element that the walk has visited
-pub record HasWritten (sc : Root) (r : Rules) (own : Option (List NamedOctets)) (style : Style) (i : List ℕ) (w : Walk) (n : Namer) (left : Option ℕ)
-    (old new : Option (List ℕ)) : Type 0 where
+pub record HasWritten (sc : Root) (r : Rules) (own : Option (List NamedOctets)) (style : Style) (i : List ℕ) (w : Walk) (n : Namer) (secrets : Secrets)
+    (left : Option ℕ) (old new : Option (List ℕ)) : Type 0 where
   pub elements : List Visited
   pub visited : HasVisited all_extras r i w elements
   pub named : HasNamed sc i elements n
+  pub follows : Follows sc i elements secrets
   pub has_left : HasLeft sc r i elements left
   pub text : List ℕ
   pub lines : AreFieldLines sc own style i elements text
   pub adds : Appends old new text
 
-pub written_none : {sc : Root} {r : Rules} {i : List ℕ} {w : Walk} {n : Namer} (own : Option (List NamedOctets))
-    (style : Style) (old : Option (List ℕ)) → HasVisited all_extras r i w [] → HasNamed sc i [] n → HasWritten sc r own style i w n None old old
-written_none {sc} {r} {i} own style old v h = record {
+pub written_none : {sc : Root} {r : Rules} {i : List ℕ} {w : Walk} {n : Namer} {s : Secrets} (own : Option (List NamedOctets))
+    (style : Style) (old : Option (List ℕ)) → HasVisited all_extras r i w [] → HasNamed sc i [] n → Follows sc i [] s
+    → HasWritten sc r own style i w n s None old old
+written_none {sc} {r} {i} own style old v h f = record {
   elements = [];
   visited = v;
   named = h;
+  follows = f;
   has_left = left_none sc r i;
   text = [];
   lines = no_lines;
@@ -134,25 +154,27 @@ written_none {sc} {r} {i} own style old v h = record {
 }
 
 pub written_more : {sc : Root} {r : Rules} {own : Option (List NamedOctets)} {style : Style} {i : List ℕ}
-    {w w' : Walk} {n n' : Namer} {left : Option ℕ} {old mid new : Option (List ℕ)} (e : Element) (said : Option Name) (field : List ℕ) (left' : Option ℕ)
-    (p : HasWritten sc r own style i w n left old mid)
+    {w w' : Walk} {n n' : Namer} {s s' : Secrets} {left : Option ℕ} {old mid new : Option (List ℕ)} (e : Element) (said : Option Name)
+    (field : List ℕ) (x : Exposure) (left' : Option ℕ) (p : HasWritten sc r own style i w n s left old mid)
     → HasVisited all_extras r i w' (p.elements ++ visited_of e ∷ []) → HasOctets i e
     → NamesNext sc i p.elements (visited_of e) n' said → field ≡ label_text (label_of said)
+    → Follows sc i (p.elements ++ visited_of e ∷ []) s' × IsExposure sc i p.elements (visited_of e) x
     → left' ≡ left_past left (label_of said) e.offset
-    → AddsLineOf own field style (visited_of e) (content_of e) mid new → HasWritten sc r own style i w' n' left' old new
+    → AddsExposed own field style (visited_of e) (content_of e) x mid new
+    → HasWritten sc r own style i w' n' s' left' old new
 written_more {sc} {r} {own} {style} {i} {w' = w'} {left = left} {old = old} {mid = mid} {new = new}
-    e said field left' p visited octets next text is l =
+    e said field x left' p visited octets next text exposed is l =
     let v = visited_of e in
-    let line = line_of style v (content_of e) (content_in i v) l.line (content_is i e octets) l.is_line in
+    let line = exposed_in own style i e x field _ l.line octets (text ∙ ap label_text next.name) l.is_line in
     record {
       elements = p.elements ++ v ∷ [];
       visited = visited;
       named = next.named;
+      follows = exposed.0;
       has_left = subst (HasLeft sc r i (p.elements ++ v ∷ [])) (sym is)
           (left_more sc r i w' p.elements v left (label_of said) next.name visited p.has_left);
       text = p.text ++ l.line;
-      lines = lines_more v l.line p.lines
-          (subst (λ f. IsLineOf own f style v (content_in i v) l.line) (text ∙ ap label_text next.name) line);
+      lines = lines_more v l.line p.lines (x, exposed.1, line);
       adds = Appends-trans old mid new p.text l.line p.adds l.adds;
     }
 

@@ -1,12 +1,9 @@
--- The lines of an input whose elements are named by a type, and how the input fits the type.
+-- The names of the elements of an input by a type, and how the input fits the type.
 use Rattle.std.specs.Prelude.{◌≡◌, ℕ, true, false, MatchOption, Option, Some, None, List, [], ◌∷◌, ◌++◌}
 use Rattle.std.specs.Option.{is_some}
-use Rattle.std.specs.Io.KnownBytes.{Appends}
 use Rattle.der_base.specs.declared.rules.Rules.{Rules}
 use Rattle.der_fields.specs.declared.named.Named.{Named}
 use Rattle.der_fields.specs.declared.named.Named.TheVariants.{Whole, Lacks, Left, Refused}
-use Rattle.der_print.specs.declared.style.Style.{Style}
-use Rattle.der_print.specs.Lines.{IsLineOf, content_in}
 use Rattle.der_schema.specs.Encodings.{all_seen, seen_in}
 use Rattle.der_schema.specs.Ends.{is_whole_after}
 use Rattle.der_schema.specs.Known.{all_extras}
@@ -14,7 +11,6 @@ use Rattle.der_schema.specs.Meaning.{Label, Root}
 use Rattle.der_schema.specs.Opened.{name_after}
 use Rattle.der_walk.specs.Visits.{Visited, Visits}
 use Rattle.der_walk.specs.Walked.{IsRefused}
-use Rattle.oid_names.specs.OwnNames.{Named as NamedOctets}
 
 -- what a type says of an element after others of an input: its name, or that it isn't in the type
 abbrev pub label_after : Root → List ℕ → List Visited → Visited → Option Label
@@ -24,20 +20,6 @@ label_after sc i before v = name_after sc (all_seen i before) (seen_in i v)
 abbrev pub label_text : Option Label → List ℕ
 label_text (Some l) = l.text
 label_text None = []
-
--- a line for each of some elements that follow others in an input, in their order, with the names of their fields, and
--- names of identifiers of a table of one's own
-pub data AreFieldLinesAfter (sc : Root) (own : Option (List NamedOctets)) (style : Style) (i : List ℕ)
-    : List Visited → List Visited → List ℕ → Type 0 where
-  no_lines : {before : List Visited} → AreFieldLinesAfter sc own style i before [] []
-  one_more_line : {before vs : List Visited} {v : Visited} (line rest : List ℕ)
-      → IsLineOf own (label_text (label_after sc i before v)) style v (content_in i v) line
-      → AreFieldLinesAfter sc own style i (before ++ v ∷ []) vs rest
-      → AreFieldLinesAfter sc own style i before (v ∷ vs) (line ++ rest)
-
--- the same of the first elements of an input
-abbrev pub AreFieldLines : Root → Option (List NamedOctets) → Style → List ℕ → List Visited → List ℕ → Type 0
-AreFieldLines sc own style i vs text = AreFieldLinesAfter sc own style i [] vs text
 
 -- each of the first elements of an input is in the type
 abbrev pub AreInType : Root → List ℕ → List Visited → Type 0
@@ -85,12 +67,3 @@ AreSame n m = n ≡ m
 abbrev pub FitsInOneWay : Type 0
 FitsInOneWay = (sc : Root) (r : Rules) (i : List ℕ) (vs us : List Visited) (n m : Named) → Fits sc r i vs n
     → Fits sc r i us m → AreSame n m
-
--- known octets grew by a line for each element of an input, up to its end or to what is refused
-pub record WritesFields (sc : Root) (r : Rules) (own : Option (List NamedOctets)) (style : Style) (i : List ℕ)
-    (named : Named) (old new : Option (List ℕ)) : Type 0 where
-  pub elements : List Visited
-  pub fits : Fits sc r i elements named
-  pub text : List ℕ
-  pub lines : AreFieldLines sc own style i elements text
-  pub adds : Appends old new text

@@ -22,19 +22,22 @@ use Rattle.der_json.specs.declared.members.Members.{Members}
 use Rattle.der_json.specs.declared.object.Object.{Object}
 use Rattle.der_json.specs.declared.object.Source.{Source}
 use Rattle.der_json.specs.Numbers.{json_number}
+use Rattle.der_json.specs.Sent.{SendsObject}
 use Rattle.der_json.specs.Timestamps.{HasTimestamp, timestamp_text}
 use Rattle.der_walk.specs.TypeNames.{type_text}
 use Rattle.der_walk.specs.Visits.{Visited}
 use Rattle.oid_names.specs.OwnNames.{IsNameAmong, Named}
 
--- a text is JSON without spaces
-abbrev pub IsJson : List ℕ → Type 0
-IsJson text = (log : Log) × IsTextOf log text
+-- a text is that of an object in JSON, without spaces
+abbrev pub IsJsonOf : Object → List ℕ → Type 0
+IsJsonOf o text = (log : Log) × SendsObject o (Some []) log × IsTextOf log text
 
--- known octets grew by a line of JSON
-pub record AddsJson (old new : Option (List ℕ)) : Type 0 where
+-- known octets grew by the line of an object for which P holds
+pub record AddsJson (P : Object → Type 0) (old new : Option (List ℕ)) : Type 0 where
+  pub object : Object
+  pub is : P object
   pub text : List ℕ
-  pub is_json : IsJson text
+  pub is_json : IsJsonOf object text
   pub adds : Appends old new (text ++ codes "\n")
 
 -- the octet of FALSE (X.690 8.2.2)
@@ -118,8 +121,8 @@ class_word Application = codes "application"
 class_word ContextSpecific = codes "context-specific"
 class_word Private = codes "private"
 
--- the members that an element with this content determines, with names of a table of one's own
-pub record IsObjectOf (own : Option (List Named)) (v : Visited) (w : List ℕ) (o : Object) : Type 0 where
+-- the members that the header of an element determines
+pub record IsHeadOf (v : Visited) (o : Object) : Type 0 where
   pub offset : o.offset ≡ v.offset
   pub depth : o.depth ≡ v.depth
   pub header : o.header ≡ v.header
@@ -128,6 +131,19 @@ pub record IsObjectOf (own : Option (List Named)) (v : Visited) (w : List ℕ) (
   pub tag : o.tag ≡ v.number
   pub constructed : o.constructed ≡ v.constructed
   pub kind : string_bytes o.kind ≡ type_text v.class v.number
+
+-- an object has these members
+pub record HasMembers (m : Members) (o : Object) : Type 0 where
+  pub value : o.value ≡ m.value
+  pub bits : o.bits ≡ m.bits
+  pub time : o.time ≡ m.time
+  pub name : o.name ≡ m.name
+  pub fault : o.fault ≡ m.fault
+
+-- the members that an element with this content determines, with names of a table of one's own
+pub record IsObjectOf (own : Option (List Named)) (v : Visited) (w : List ℕ) (o : Object) : Type 0 where
+  pub head : IsHeadOf v o
+  pub secret : o.secret ≡ None
   pub value : IsJsonValue v w (view o.value)
   pub bits : AreBitsOf v w o.bits
   pub time : IsTimestampOf v w (option_map string_bytes o.time)
@@ -135,7 +151,18 @@ pub record IsObjectOf (own : Option (List Named)) (v : Visited) (w : List ℕ) (
   -- what is said of a value that breaks its type
   pub fault : IsRemark v w (option_map string_bytes o.fault)
 
--- the members that say where it is from, and its octets
+-- the members of an element that is secret: none says anything of its content
+pub record IsOutlineOf (v : Visited) (o : Object) : Type 0 where
+  pub head : IsHeadOf v o
+  pub secret : o.secret ≡ Some true
+  pub value : view o.value ≡ null
+  pub bits : o.bits ≡ None
+  pub time : o.time ≡ None
+  pub name : o.name ≡ None
+  pub fault : o.fault ≡ None
+  pub octets : o.octets ≡ None
+
+-- the members that say where it is from
 pub record IsFrom (s : Source) (o : Object) : Type 0 where
   pub file : option_map (λ x. x.now) o.file ≡ option_map (λ x. x.now) s.file
   pub block : o.block ≡ s.block
@@ -143,10 +170,15 @@ pub record IsFrom (s : Source) (o : Object) : Type 0 where
   pub path : o.path.now ≡ s.path.now
   pub field : option_map (λ x. x.now) o.field ≡ option_map (λ x. x.now) s.field
   pub field_path : option_map (λ x. x.now) o.field_path ≡ option_map (λ x. x.now) s.field_path
-  pub octets : option_map string_bytes o.octets ≡ option_map (λ w. encode_lower w.now) s.octets
 
--- one line of JSON for each of some elements
-pub data AreJsonLines : List Visited → List ℕ → Type 0 where
-  no_lines : AreJsonLines [] []
-  one_more_line : {v : Visited} {vs : List Visited} (text rest : List ℕ) → IsJson text → AreJsonLines vs rest
-      → AreJsonLines (v ∷ vs) (text ++ codes "\n" ++ rest)
+-- its octets, if they are asked for
+abbrev pub HasOctets : Source → Object → Type 0
+HasOctets s o = option_map string_bytes o.octets ≡ option_map (λ w. encode_lower w.now) s.octets
+
+-- the object of an element with this content, and with these octets if they are asked for
+abbrev pub IsWholeOf : Source → Option (List Named) → Visited → List ℕ → Object → Type 0
+IsWholeOf s own v w o = IsFrom s o × HasOctets s o × IsObjectOf own v w o
+
+-- the object of an element that is secret
+abbrev pub IsSecretOf : Source → Visited → Object → Type 0
+IsSecretOf s v o = IsFrom s o × IsOutlineOf v o

@@ -1,4 +1,5 @@
 pub mod Json
 pub mod Numbers
 pub mod PathTexts
+pub mod Sent
 pub mod Timestamps

@@ -6,7 +6,8 @@ mod moment;
 mod number;
 mod object;
 mod paths;
+mod sent;
 mod value;
 
-pub use object::{Source, write_json};
+pub use object::{Object, Source, write_json, write_secret};
 pub use paths::Paths;

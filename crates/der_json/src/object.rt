@@ -1,7 +1,8 @@
 //! An element as an object of JSON.
 ghost use Rattle.std.specs.Prelude.{◌≡◌, IfOk, OnOk, option_map, string_bytes};
 ghost use Rattle.hex.specs.Hex.{encode_lower};
-ghost use Rattle.der_json.specs.Json.{AddsJson, IsFrom, IsJson, IsObjectOf, class_word};
+ghost use Rattle.der_json.specs.Json.{AddsJson, HasMembers, HasOctets, IsFrom, IsHeadOf, IsJsonOf, IsObjectOf};
+ghost use Rattle.der_json.specs.Json.{IsOutlineOf, IsSecretOf, IsWholeOf, class_word};
 ghost use Rattle.der_print.specs.Names.{table_of};
 ghost use Rattle.der_print.specs.Texts.{content_of};
 ghost use Rattle.der_walk.specs.TypeNames.{type_text};
@@ -12,7 +13,6 @@ use der_base::header::Class;
 use der_print::{Hex, Limit};
 use der_walk::Element;
 use oid_names::OwnNames;
-use serde::Serialize;
 use serde_json::Value;
 use std::alloc::{AllocError, Global};
 use std::io;
@@ -38,39 +38,30 @@ pub struct Source<'a> {
 }
 
 /// An element as an object of JSON.
-#[derive(Drop, Serialize)]
-struct Object<'a> {
-    #[serde(skip_serializing_if = "Option::is_none")]
-    file: Option<&'a str>,
-    #[serde(skip_serializing_if = "Option::is_none")]
-    block: Option<usize>,
-    #[serde(skip_serializing_if = "Option::is_none")]
-    label: Option<&'a str>,
-    offset: usize,
-    depth: usize,
-    header: usize,
-    length: Option<usize>,
-    class: &'static str,
-    tag: u32,
-    constructed: bool,
-    #[serde(rename = "type")]
-    kind: String,
-    path: &'a str,
-    #[serde(skip_serializing_if = "Option::is_none")]
-    field: Option<&'a str>,
-    #[serde(skip_serializing_if = "Option::is_none")]
-    field_path: Option<&'a str>,
-    value: Value,
-    #[serde(skip_serializing_if = "Option::is_none")]
-    bits: Option<usize>,
-    #[serde(skip_serializing_if = "Option::is_none")]
-    time: Option<String>,
-    #[serde(skip_serializing_if = "Option::is_none")]
-    name: Option<&'a str>,
-    #[serde(skip_serializing_if = "Option::is_none")]
-    fault: Option<String>,
-    #[serde(skip_serializing_if = "Option::is_none")]
-    octets: Option<String>,
+#[derive(Drop)]
+pub struct Object<'a> {
+    pub file: Option<&'a str>,
+    pub block: Option<usize>,
+    pub label: Option<&'a str>,
+    pub offset: usize,
+    pub depth: usize,
+    pub header: usize,
+    pub length: Option<usize>,
+    pub class: &'static str,
+    pub tag: u32,
+    pub constructed: bool,
+    pub kind: String,
+    pub path: &'a str,
+    pub field: Option<&'a str>,
+    pub field_path: Option<&'a str>,
+    /// Whether nothing is said of its content. None if all is.
+    pub secret: Option<bool>,
+    pub value: Value,
+    pub bits: Option<usize>,
+    pub time: Option<String>,
+    pub name: Option<&'a str>,
+    pub fault: Option<String>,
+    pub octets: Option<String>,
 }
 
 /// Writes an element as a line of JSON. The name of an OBJECT IDENTIFIER is that of a table of one's own, if there is one
@@ -82,19 +73,42 @@ pub fn write_json<'n, W: Write>(
     own: Option<&'n OwnNames<'n>>,
     out: &mut W,
 ) -> io::Result<()>
-    ensures { OnOk result (AddsJson (W.contents out.old) (W.contents out.new)) }
+    ensures { OnOk result (AddsJson
+        (IsWholeOf source.entry (table_of own.entry) (visited_of element.now) (content_of element.now))
+        (W.contents out.old) (W.contents out.new)) }
 {
     let object = object_of(alloc, source, element, own)?;
+    write_object(alloc, &object, out)
+}
+
+/// Writes an element that is secret as a line of JSON: with the member `secret`, and without its value and its octets.
+pub fn write_secret<W: Write>(
+    alloc: Global,
+    source: Source<'_>,
+    element: &Element<'_>,
+    out: &mut W,
+) -> io::Result<()>
+    ensures { OnOk result (AddsJson (IsSecretOf source.entry (visited_of element.now))
+        (W.contents out.old) (W.contents out.new)) }
+{
+    let object = outline_of(alloc, source, element)?;
+    write_object(alloc, &object, out)
+}
+
+/// Writes an object as a line.
+fn write_object<W: Write>(alloc: Global, object: &Object<'_>, out: &mut W) -> io::Result<()>
+    ensures { OnOk result (AddsJson (λ o. o ≡ object.now) (W.contents out.old) (W.contents out.new)) }
+{
     let text = json_of(alloc, object)?;
     out.write_all(text.as_bytes())?;
     out.write_all(b"\n")
 }
 
 /// The text of an object, which is one line.
-fn json_of(alloc: Global, object: Object<'_>) -> io::Result<String>
-    ensures { IfOk result (λ text. IsJson (string_bytes text)) }
+fn json_of(alloc: Global, object: &Object<'_>) -> io::Result<String>
+    ensures { IfOk result (λ text. IsJsonOf object.now (string_bytes text)) }
 {
-    match serde_json::to_string(alloc, &object) {
+    match serde_json::to_string(alloc, object) {
         Ok(text) => Ok(text),
         Err(_) => Err(io::Error::from(ErrorKind::OutOfMemory)),
     }
@@ -110,16 +124,55 @@ fn object_of<'a>(
     ensures element { IfOk result
         (IsObjectOf (table_of own.entry) (visited_of element.now) (content_of element.now)) }
     ensures source { IfOk result (IsFrom source.entry) }
+    ensures octets { IfOk result (HasOctets source.entry) }
+{
+    let octets = hex_of(alloc, source.octets)?;
+    let members = members_of(alloc, element, own)?;
+    object_with(alloc, source, element, members, octets, None)
+}
+
+/// An element that is secret as an object.
+fn outline_of<'a>(
+    alloc: Global,
+    source: Source<'a>,
+    element: &Element<'_>,
+) -> Result<Object<'a>, AllocError>
+    ensures element { IfOk result (IsOutlineOf (visited_of element.now)) }
+    ensures source { IfOk result (IsFrom source.entry) }
+{
+    let members = Members {
+        value: Value::Null,
+        bits: None,
+        time: None,
+        name: None,
+        fault: None,
+    };
+    object_with(alloc, source, element, members, None, Some(true))
+}
+
+/// The object of an element with these members, octets, and mark that it is secret.
+fn object_with<'a>(
+    alloc: Global,
+    source: Source<'a>,
+    element: &Element<'_>,
+    members: Members<'a>,
+    octets: Option<String>,
+    secret: Option<bool>,
+) -> Result<Object<'a>, AllocError>
+    ensures head { IfOk result (IsHeadOf (visited_of element.now)) }
+    ensures source { IfOk result (IsFrom source.entry) }
+    ensures members { IfOk result (HasMembers members.entry) }
+    ensures octets { IfOk result (λ o. o.octets ≡ octets) }
+    ensures secret { IfOk result (λ o. o.secret ≡ secret) }
 {
     let kind = kind_of(alloc, element)?;
-    let octets = hex_of(alloc, source.octets)?;
     let Members {
         value,
         bits,
         time,
         name,
         fault,
-    } = members_of(alloc, element, own)?;
+    } = members;
     Ok(Object {
         file: source.file,
         block: source.block,
@@ -135,6 +188,7 @@ fn object_of<'a>(
         path: source.path,
         field: source.field,
         field_path: source.field_path,
+        secret,
         value,
         bits,
         time,

@@ -1,4 +1,8 @@
 //! Keys (RFC 5958, RFC 8017, RFC 5915, RFC 5280 4.1.2.7).
+ghost use Rattle.std.specs.Prelude.{◌≡◌, codes};
+ghost use Rattle.der_known.specs.Tables.{HasKeys};
+ghost use Rattle.der_schema.specs.Meaning.{all_types};
+
 use crate::algorithms::ALGORITHM_COMPONENTS;
 use crate::attributes::ATTRIBUTES;
 use crate::numbered::{ALGORITHM, CURVE, EC_PRIVATE_KEY, RSA_PRIVATE_KEY, RSA_PUBLIC_KEY};
@@ -45,32 +49,36 @@ static RSA_PRIVATE_KEY_TYPE: Component = field!("rsaPrivateKey" sequence![
     field!("version" INTEGER),
     field!("modulus" INTEGER),
     field!("publicExponent" INTEGER),
-    field!("privateExponent" INTEGER),
-    field!("prime1" INTEGER),
-    field!("prime2" INTEGER),
-    field!("exponent1" INTEGER),
-    field!("exponent2" INTEGER),
-    field!("coefficient" INTEGER),
+    field!("privateExponent" INTEGER => Secret),
+    field!("prime1" INTEGER => Secret),
+    field!("prime2" INTEGER => Secret),
+    field!("exponent1" INTEGER => Secret),
+    field!("exponent2" INTEGER => Secret),
+    field!("coefficient" INTEGER => Secret),
     optional!("otherPrimeInfos" sequence_of!(field!("otherPrimeInfo" sequence![
         field!("prime" INTEGER),
         field!("exponent" INTEGER),
         field!("coefficient" INTEGER),
-    ]))),
+    ])) => Secret),
 ]);
 
-fn rsa_private_key() -> &'static Component {
+fn rsa_private_key() -> &'static Component
+    ensures { result.now.name.now ≡ codes "rsaPrivateKey" }
+{
     &RSA_PRIVATE_KEY_TYPE
 }
 
 /// An ECPrivateKey (RFC 5915 3).
 static EC_PRIVATE_KEY_TYPE: Component = field!("ecPrivateKey" sequence![
     field!("version" INTEGER),
-    field!("privateKey" OCTET_STRING),
+    field!("privateKey" OCTET_STRING => Secret),
     optional!("parameters" explicit!(0 field!("" CURVE))),
     optional!("publicKey" explicit!(1 field!("" BIT_STRING))),
 ]);
 
-fn ec_private_key() -> &'static Component {
+fn ec_private_key() -> &'static Component
+    ensures { result.now.name.now ≡ codes "ecPrivateKey" }
+{
     &EC_PRIVATE_KEY_TYPE
 }
 
@@ -82,12 +90,12 @@ const PRIVATE_KEYS: &[Selection] = &[
     // id-ecPublicKey
     selection!(b"\x2a\x86\x48\xce\x3d\x02\x01" field!("ecPrivateKey" EC_PRIVATE_KEY)),
     // id-dsa
-    selection!(b"\x2a\x86\x48\xce\x38\x04\x01" field!("dsaPrivateKey" INTEGER)),
+    selection!(b"\x2a\x86\x48\xce\x38\x04\x01" field!("dsaPrivateKey" INTEGER => Secret)),
     // id-X25519, id-X448, id-Ed25519, id-Ed448
-    selection!(b"\x2b\x65\x6e" field!("curvePrivateKey" OCTET_STRING)),
-    selection!(b"\x2b\x65\x6f" field!("curvePrivateKey" OCTET_STRING)),
-    selection!(b"\x2b\x65\x70" field!("curvePrivateKey" OCTET_STRING)),
-    selection!(b"\x2b\x65\x71" field!("curvePrivateKey" OCTET_STRING)),
+    selection!(b"\x2b\x65\x6e" field!("curvePrivateKey" OCTET_STRING => Secret)),
+    selection!(b"\x2b\x65\x6f" field!("curvePrivateKey" OCTET_STRING => Secret)),
+    selection!(b"\x2b\x65\x70" field!("curvePrivateKey" OCTET_STRING => Secret)),
+    selection!(b"\x2b\x65\x71" field!("curvePrivateKey" OCTET_STRING => Secret)),
 ];
 
 /// The AlgorithmIdentifier of a PrivateKeyInfo, which says what its key is.
@@ -98,12 +106,14 @@ pub(crate) const PRIVATE_KEY_ALGORITHM: Type =
 static PRIVATE_KEY_INFO_TYPE: Component = field!("privateKeyInfo" sequence![
     field!("version" INTEGER),
     field!("privateKeyAlgorithm" PRIVATE_KEY_ALGORITHM),
-    field!("privateKey" string!(4 Inside::Chosen)),
+    field!("privateKey" string!(4 Inside::Chosen) => Secret),
     optional!("attributes" implicit!(0 ATTRIBUTES)),
     optional!("publicKey" implicit!(1 string)),
 ]);
 
-fn private_key_info() -> &'static Component {
+fn private_key_info() -> &'static Component
+    ensures { result.now.name.now ≡ codes "privateKeyInfo" }
+{
     &PRIVATE_KEY_INFO_TYPE
 }
 
@@ -118,7 +128,9 @@ fn encrypted_private_key_info() -> &'static Component {
 }
 
 /// Its types, in the order of their numbers.
-pub(crate) fn types() -> [&'static Component; 6] {
+pub(crate) fn types() -> [&'static Component; 6]
+    ensures { HasKeys 2 (all_types result) }
+{
     [
         subject_public_key_info(),
         rsa_public_key(),

@@ -1,5 +1,5 @@
 //! The types that are known, and which of them an input is.
-ghost use Rattle.std.specs.Prelude.{◌≡◌, map};
+ghost use Rattle.std.specs.Prelude.{◌≡◌};
 
 use crate::numbered::{
     AP_REPLY, AP_REQUEST, AS_REPLY, AS_REQUEST, ATTRIBUTE_CERTIFICATE, CERTIFICATE,
@@ -77,11 +77,11 @@ pub struct KnownTypes {
 impl KnownTypes {
     ghost use Rattle.der_schema.specs.Known.{IsFirstSchema, IsOfType, root_at};
     ghost use Rattle.der_schema.specs.Meaning.{all_types};
-    ghost use Rattle.der_known.specs.Names.{known_names};
+    ghost use Rattle.der_known.specs.Tables.{AreKnown};
 
     /// All of them.
     pub fn new() -> KnownTypes
-        ensures { map (λ k. k.name.now) result.known.now ≡ known_names }
+        ensures { AreKnown result }
     {
         KnownTypes {
             known: &KNOWN,

@@ -1,4 +1,7 @@
 //! The types that others refer to by number.
+ghost use Rattle.der_known.specs.Tables.{HasKeys};
+ghost use Rattle.der_schema.specs.Meaning.{all_types};
+
 use crate::{
     algorithms, attribute_certificates, attributes, certificates, cms, extensions, kerberos, keys,
     ldap, names, ocsp, pkcs7, pkcs12, snmp, time_stamps,
@@ -184,7 +187,9 @@ pub(crate) const HOST_ADDRESS: Type = Type::Numbered(79);
 pub(crate) const COUNT: usize = 80;
 
 /// The types, each at its number.
-pub(crate) fn types() -> [&'static Component; COUNT] {
+pub(crate) fn types() -> [&'static Component; COUNT]
+    ensures { HasKeys 13 (all_types result) }
+{
     let [name, general_name] = names::types();
     let [
         digest_algorithm,

@@ -2,7 +2,7 @@
 use crate::attributes::BAG_ATTRIBUTES;
 use crate::numbered::{
     AUTHENTICATED_SAFE, CERTIFICATE, CERTIFICATE_LIST, DIGEST_ALGORITHM, ENCRYPTED_DATA,
-    ENCRYPTED_PRIVATE_KEY_INFO, ENVELOPED_DATA, PRIVATE_KEY_INFO, SAFE_CONTENTS,
+    ENCRYPTED_PRIVATE_KEY_INFO, ENVELOPED_DATA, PRIVATE_KEY_INFO, SAFE_CONTENTS, SIGNED_DATA,
 };
 use crate::universal::{IA5_STRING, INTEGER, OBJECT_IDENTIFIER, OCTET_STRING};
 use der_schema::schema::{Component, Inside, Selection, Type};
@@ -41,7 +41,7 @@ const BAGS: &[Selection] = &[
     ])),
     selection!(b"\x2a\x86\x48\x86\xf7\x0d\x01\x0c\x0a\x01\x05" field!("secretBag" sequence![
         field!("secretTypeId" OBJECT_IDENTIFIER),
-        field!("secretValue" explicit!(0 field!("" Type::Any))),
+        field!("secretValue" explicit!(0 field!("" Type::Any)) => Secret),
     ])),
     selection!(b"\x2a\x86\x48\x86\xf7\x0d\x01\x0c\x0a\x01\x06" field!("safeContentsBag" SAFE_CONTENTS)),
 ];
@@ -63,7 +63,7 @@ const SAFES: &[Selection] = &[
     // id-data, id-envelopedData, id-encryptedData
     selection!(b"\x2a\x86\x48\x86\xf7\x0d\x01\x07\x01" field!("data" string!(4 Inside::Holds(&[
         field!("" SAFE_CONTENTS),
-    ])))),
+    ])) => SecretUnread)),
     selection!(b"\x2a\x86\x48\x86\xf7\x0d\x01\x07\x03" field!("envelopedData" ENVELOPED_DATA)),
     selection!(b"\x2a\x86\x48\x86\xf7\x0d\x01\x07\x06" field!("encryptedData" ENCRYPTED_DATA)),
 ];
@@ -78,12 +78,13 @@ fn authenticated_safe() -> &'static Component {
     &AUTHENTICATED_SAFE_TYPE
 }
 
-/// What the authSafe of a store is (RFC 7292 4).
+/// What the authSafe of a store is (RFC 7292 4). The content that is signed may have private keys, and no type here.
 const STORES: &[Selection] = &[
-    // id-data
+    // id-signedData, id-data
+    selection!(b"\x2a\x86\x48\x86\xf7\x0d\x01\x07\x02" field!("signedData" SIGNED_DATA => Secret)),
     selection!(b"\x2a\x86\x48\x86\xf7\x0d\x01\x07\x01" field!("data" string!(4 Inside::Holds(&[
         field!("authenticatedSafe" AUTHENTICATED_SAFE),
-    ])))),
+    ])) => SecretUnread)),
 ];
 
 /// A store of keys and certificates (RFC 7292 4).

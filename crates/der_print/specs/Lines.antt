@@ -140,6 +140,11 @@ pub record AddsLineOf (own : Option (List Named)) (field : List ℕ) (style : St
   pub is_line : IsLineOf own field style v w line
   pub adds : Appends old new line
 
+-- the line of an element with this text in place of what follows the type, which says nothing of the content
+abbrev pub outline : List ℕ → List ℕ → Style → Visited → List ℕ
+outline ending field style v =
+    front_text style.colours style.limit field v ++ cut (limit_of style.limit field v) ending ++ codes "\n"
+
 -- the same without the name of a field
 abbrev pub IsNamedLine : Option (List Named) → Style → Visited → List ℕ → List ℕ → Type 0
 IsNamedLine own style v w line = IsLineOf own [] style v w line

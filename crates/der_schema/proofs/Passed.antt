@@ -24,9 +24,9 @@ level_at ts ls k l get = slice_get-map (state_of ts) ls k ∙ ap (option_map (st
 
 pub pass_name : (ts : List Component) (ls : List Level) (k : ℕ) (l : Level) (x : Encoding) (st : Step)
     → slice_get ls k ≡ Some l → passed_of ts (has_items (expected_of l.expected)) st ≡ past (state_of ts l) x
-    → label_by (items_at (slice_get ls k)) st.named ≡ name_in (map (state_of ts) ls) (seen k x)
+    → label_by (items_at (slice_get ls k)) st.called ≡ name_in (map (state_of ts) ls) (seen k x)
 pass_name ts ls k l x st get step =
-    ap (λ (o : Option Level). label_by (items_at o) st.named) get
+    ap (λ (o : Option Level). label_by (items_at o) st.called) get
     ∙ ap (λ (p : Passed). p.name) step ∙ sym (ap (λ (o : Option State). name_at o x) (level_at ts ls k l get))
 
 pushed : (ts : List Component) (ls : List Level) (k : ℕ) (l m : Level) → map (state_of ts) (take k ls ++ l ∷ m ∷ [])

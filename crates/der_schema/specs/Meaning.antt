@@ -7,6 +7,7 @@ use Rattle.der_base.specs.declared.header.Class.{Class}
 use Rattle.der_schema.specs.declared.level.Content.{Content}
 use Rattle.der_schema.specs.declared.level.Content.TheVariants.{NoElement, Anything, Ordered, Unordered, Repeated}
 use Rattle.der_schema.specs.declared.level.Level.{Level}
+use Rattle.der_schema.specs.declared.matching.Called.{Called}
 use Rattle.der_schema.specs.declared.matching.Found.{Found}
 use Rattle.der_schema.specs.declared.schema.Component.{Component}
 use Rattle.der_schema.specs.declared.schema.Form.{Form}
@@ -17,6 +18,8 @@ use Rattle.der_schema.specs.declared.schema.Inside.TheOpen.{Holds, Chosen, Selec
 use Rattle.der_schema.specs.declared.schema.Inside.TheOpen.{Any, Tagged, Choice, Selected, Numbered}
 use Rattle.der_schema.specs.declared.schema.Inside.TheVariants.{Free as AnyElements}
 use Rattle.der_schema.specs.declared.schema.Schema.{Schema}
+use Rattle.der_schema.specs.declared.schema.Secrecy.{Secrecy}
+use Rattle.der_schema.specs.declared.schema.Secrecy.TheVariants.{Public, Secret, SecretUnread}
 use Rattle.der_schema.specs.declared.schema.Selection.{Selection, out-Selection}
 use Rattle.der_schema.specs.declared.schema.Type.{out-Type}
 
@@ -79,17 +82,31 @@ root_of sc = record { components = sc.components.now; types = all_types sc.types
 abbrev pub any_elements : Inside
 any_elements = AnyElements
 
--- an element that is in a schema: its name, and what is inside
-pub record Field : Type 0 where
+-- a name, and how secret what has it is
+pub record Marked : Type 0 where
   pub name : List ℕ
+  pub secrecy : Secrecy
+
+abbrev pub mark_of : Component → Marked
+mark_of c = record { name = c.name.now; secrecy = c.secrecy }
+
+abbrev pub nameless : Marked
+nameless = record { name = []; secrecy = Public }
+
+abbrev pub marked_of : Called → Marked
+marked_of c = record { name = c.named.now.name.now; secrecy = c.secrecy }
+
+-- an element that is in a schema: its name, how secret it is, and what is inside
+pub record Field : Type 0 where
+  pub marked : Marked
   pub inside : Inside
 
-abbrev pub field : List ℕ → Inside → Field
-field name i = record { name = name; inside = i }
+abbrev pub field : Marked → Inside → Field
+field m i = record { marked = m; inside = i }
 
 abbrev pub field_of : Option Found → Option Field
 field_of None = None
-field_of (Some f) = Some (field f.named.now.name.now f.inside.now)
+field_of (Some f) = Some (field (marked_of f.called) f.inside.now)
 
 abbrev pub or_else : {A : Type 0} → Option A → Option A → Option A
 or_else (Some a) _ = Some a
@@ -104,73 +121,84 @@ fits Either constructed = true
 abbrev pub has_tag : Class → ℕ → Form → Encoding → Bool
 has_tag c n f x = same_class c x.class && ((n == x.number) && fits f x.constructed)
 
-abbrev pub tagged_field : Class → ℕ → Form → Encoding → List ℕ → Inside → Option Field
-tagged_field c n f x name i = if has_tag c n f x then Some (field name i) else None
+abbrev pub tagged_field : Class → ℕ → Form → Encoding → Marked → Inside → Option Field
+tagged_field c n f x m i = if has_tag c n f x then Some (field m i) else None
 
 -- the first name, or the second if the first is empty
 abbrev pub name_or : List ℕ → List ℕ → List ℕ
 name_or [] other = other
 name_or (b ∷ bs) _ = b ∷ bs
 
+-- the secrecy of what has both: the one that lets less be printed
+abbrev pub secret_or : Secrecy → Secrecy → Secrecy
+secret_or Public s = s
+secret_or SecretUnread Public = SecretUnread
+secret_or SecretUnread SecretUnread = SecretUnread
+secret_or SecretUnread Secret = Secret
+secret_or Secret s = Secret
+
+abbrev pub marked_or : Marked → Marked → Marked
+marked_or m other = record { name = name_or m.name other.name; secrecy = secret_or m.secrecy other.secrecy }
+
 -- an element as an alternative of a choice (X.680 29)
-abbrev pub as_alternative : Component → Encoding → List ℕ → Option Field
+abbrev pub as_alternative : Component → Encoding → Marked → Option Field
 as_alternative c x choice =
     elim (out-Type c.kind) [
       | Any ↦ None
-      | Tagged k n f i ↦ tagged_field k n f x (name_or c.name.now choice) i
+      | Tagged k n f i ↦ tagged_field k n f x (marked_or (mark_of c) choice) i
       | Choice w ↦ None
       | Selected ↦ None
       | Numbered n ↦ None
     ]
 
-abbrev pub alternative_in : List Component → Encoding → List ℕ → Option Field
+abbrev pub alternative_in : List Component → Encoding → Marked → Option Field
 alternative_in [] x choice = None
 alternative_in (c ∷ cs) x choice = or_else (as_alternative c x choice) (alternative_in cs x choice)
 
--- an element as a component that nothing else says, under this name
-abbrev pub as_plain : Component → Encoding → List ℕ → Option Field
-as_plain c x name =
+-- an element as a component that nothing else says, under this name and mark
+abbrev pub as_plain : Component → Encoding → Marked → Option Field
+as_plain c x m =
     elim (out-Type c.kind) [
-      | Any ↦ Some (field name any_elements)
-      | Tagged k n f i ↦ tagged_field k n f x name i
-      | Choice w ↦ alternative_in w.now x name
+      | Any ↦ Some (field m any_elements)
+      | Tagged k n f i ↦ tagged_field k n f x m i
+      | Choice w ↦ alternative_in w.now x m
       | Selected ↦ None
       | Numbered n ↦ None
     ]
 
 -- an element of a type that has an index, under this name or else that of the type
-abbrev pub as_numbered : Option Component → Encoding → List ℕ → Option Field
-as_numbered None x name = None
-as_numbered (Some c) x name = as_plain c x (name_or name c.name.now)
+abbrev pub as_numbered : Option Component → Encoding → Marked → Option Field
+as_numbered None x m = None
+as_numbered (Some c) x m = as_plain c x (marked_or m (mark_of c))
 
--- an element as a component that may be a type by its index, under this name
-abbrev pub as_referred : Component → List Component → Encoding → List ℕ → Option Field
-as_referred c ts x name =
+-- an element as a component that may be a type by its index, under this name and mark
+abbrev pub as_referred : Component → List Component → Encoding → Marked → Option Field
+as_referred c ts x m =
     elim (out-Type c.kind) [
-      | Any ↦ as_plain c x name
-      | Tagged k n f i ↦ as_plain c x name
-      | Choice w ↦ as_plain c x name
-      | Selected ↦ as_plain c x name
-      | Numbered n ↦ as_numbered (slice_get ts n) x name
+      | Any ↦ as_plain c x m
+      | Tagged k n f i ↦ as_plain c x m
+      | Choice w ↦ as_plain c x m
+      | Selected ↦ as_plain c x m
+      | Numbered n ↦ as_numbered (slice_get ts n) x m
     ]
 
 -- an element of the selected type, or any
-abbrev pub as_selected_by : List Component → List Component → Encoding → List ℕ → Option Field
-as_selected_by [] ts x name = Some (field name any_elements)
-as_selected_by (c ∷ _) ts x name = as_referred c ts x (name_or c.name.now name)
+abbrev pub as_selected_by : List Component → List Component → Encoding → Marked → Option Field
+as_selected_by [] ts x m = Some (field m any_elements)
+as_selected_by (c ∷ _) ts x m = as_referred c ts x (marked_or (mark_of c) m)
 
-abbrev pub as_selected : Around → Encoding → List ℕ → Option Field
-as_selected a x name = as_selected_by a.selected a.types x name
+abbrev pub as_selected : Around → Encoding → Marked → Option Field
+as_selected a x m = as_selected_by a.selected a.types x m
 
 -- an element as a component, if it may be that
 abbrev pub found_in : Component → Encoding → Around → Option Field
 found_in c x a =
     elim (out-Type c.kind) [
-      | Any ↦ as_referred c a.types x c.name.now
-      | Tagged k n f i ↦ as_referred c a.types x c.name.now
-      | Choice w ↦ as_referred c a.types x c.name.now
-      | Selected ↦ as_selected a x c.name.now
-      | Numbered n ↦ as_referred c a.types x c.name.now
+      | Any ↦ as_referred c a.types x (mark_of c)
+      | Tagged k n f i ↦ as_referred c a.types x (mark_of c)
+      | Choice w ↦ as_referred c a.types x (mark_of c)
+      | Selected ↦ as_selected a x (mark_of c)
+      | Numbered n ↦ as_referred c a.types x (mark_of c)
     ]
 
 abbrev pub next_or : Option Field → Bool → List Component → Option (Field × List Component)
@@ -235,10 +263,14 @@ opened i p cs =
       | Begins w z ↦ components w.now
     ]
 
--- the name of an element, and whether it is an item
+-- the name of an element, whether it is an item, and how secret it is
 pub record Label : Type 0 where
   pub text : List ℕ
   pub is_item : Bool
+  pub secrecy : Secrecy
+
+abbrev pub label : Bool → Marked → Label
+label item m = record { text = m.name; is_item = item; secrecy = m.secrecy }
 
 -- the elements of a content are items, which no component tells apart: those of a list, or any
 abbrev pub has_items : Expected → Bool
@@ -248,7 +280,7 @@ has_items (components _) = false
 has_items (members _) = false
 has_items (each _) = true
 
--- what a schema says of an element: its name, what is expected inside it and after it
+-- what a schema says of an element: its name and mark, what is expected inside it and after it
 pub record Passed : Type 0 where
   pub name : Option Label
   pub inside : State
@@ -257,7 +289,7 @@ pub record Passed : Type 0 where
 -- it is this field, and this is expected after it; what is selected around it is selected inside it
 abbrev pub passed : State → Encoding → Field → Expected → Passed
 passed s x f e = record {
-  name = Some (record { text = f.name; is_item = has_items s.expected });
+  name = Some (label (has_items s.expected) f.marked);
   inside = record { expected = opened f.inside x.constructed s.around.selected; around = s.around };
   after = record {
     expected = e;
@@ -283,7 +315,7 @@ with_same (Some f) e = Some (f, e)
 
 -- what an element is in a content, and what is expected after it
 abbrev pub place_in : Expected → Encoding → Around → Option (Field × Expected)
-place_in free x a = Some (field [] any_elements, free)
+place_in free x a = Some (field nameless any_elements, free)
 place_in nothing x a = None
 place_in (components cs) x a = with_rest (next_in cs x a)
 place_in (members cs) x a = with_same (member_in cs x a) (members cs)

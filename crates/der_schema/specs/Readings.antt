@@ -4,7 +4,7 @@ use Rattle.std.specs.Option.{is_some}
 use Rattle.std.specs.List.{list_all}
 use Rattle.der_schema.specs.declared.schema.Component.{Component}
 use Rattle.der_schema.specs.Meaning.{Encoding, Field, Label, Passed, State, free, components, members, each}
-use Rattle.der_schema.specs.Meaning.{any_elements, field, found_in, passed}
+use Rattle.der_schema.specs.Meaning.{any_elements, field, found_in, nameless, passed}
 use Rattle.der_schema.specs.Opened.{Forest, no_elements, one_more, names}
 
 -- c is next, where the OPTIONAL components before it are absent (X.680 25), and the components after it follow
@@ -21,7 +21,7 @@ pub data IsAmong : List Component → Component → Type 0 where
 
 -- what an element may be where s is expected
 pub data Reads (s : State) (x : Encoding) (p : Passed) : Type 0 where
-  any_element : s.expected ≡ free → p ≡ passed s x (field [] any_elements) free → Reads s x p
+  any_element : s.expected ≡ free → p ≡ passed s x (field nameless any_elements) free → Reads s x p
   component : (cs rest : List Component) (c : Component) (f : Field) → s.expected ≡ components cs → IsNext cs c rest
       → found_in c x s.around ≡ Some f → p ≡ passed s x f (components rest) → Reads s x p
   member : (cs : List Component) (c : Component) (f : Field) → s.expected ≡ members cs → IsAmong cs c

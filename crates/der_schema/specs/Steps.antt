@@ -5,6 +5,7 @@ use Rattle.der_walk.specs.declared.element.Element.{Element}
 use Rattle.der_walk.specs.Walked.{visited_of}
 use Rattle.der_schema.specs.declared.level.Content.{Content}
 use Rattle.der_schema.specs.declared.level.Level.{Level}
+use Rattle.der_schema.specs.declared.matching.Called.{Called}
 use Rattle.der_schema.specs.declared.matching.Found.{Found}
 use Rattle.der_schema.specs.declared.matching.Known.{Known}
 use Rattle.der_schema.specs.declared.matching.Name.{Name}
@@ -13,7 +14,7 @@ use Rattle.der_schema.specs.declared.schema.Component.{Component}
 use Rattle.der_schema.specs.declared.schema.Selection.{Selection}
 use Rattle.der_schema.specs.Encodings.{encoding_in}
 use Rattle.der_schema.specs.Meaning.{Around, Encoding, Expected, Field, Label, Passed, all_types, components_of}
-use Rattle.der_schema.specs.Meaning.{expected_of, field, has_items, state_of}
+use Rattle.der_schema.specs.Meaning.{expected_of, field, has_items, label, marked_of, state_of}
 
 -- what a schema sees of an element of the input
 abbrev pub encoding_of : Known → Element → Encoding
@@ -25,12 +26,12 @@ around s k = record { selected = components_of s; types = all_types k.types.now 
 
 abbrev pub label_of : Option Name → Option Label
 label_of None = None
-label_of (Some n) = Some (record { text = n.text.now; is_item = n.is_item })
+label_of (Some n) = Some (record { text = n.text.now; is_item = n.is_item; secrecy = n.secrecy })
 
--- the name that a component has, of an item or not
-abbrev pub label_by : Bool → Option (Bor Component) → Option Label
+-- the name and mark of what is called so, an item or not
+abbrev pub label_by : Bool → Option Called → Option Label
 label_by item None = None
-label_by item (Some w) = Some (record { text = w.now.name.now; is_item = item })
+label_by item (Some c) = Some (label item (marked_of c))
 
 -- the elements of a content are items, if it is there
 abbrev pub items_at : Option Level → Bool
@@ -40,16 +41,16 @@ items_at (Some l) = has_items (expected_of l.expected)
 -- a step of an element, which is an item or not
 abbrev pub passed_of : List Component → Bool → Step → Passed
 passed_of ts item s =
-    record { name = label_by item s.named; inside = state_of ts s.inside; after = state_of ts s.after }
+    record { name = label_by item s.called; inside = state_of ts s.inside; after = state_of ts s.after }
 
 abbrev pub next_found : Option (Found × Bor (List Component)) → Option (Field × List Component)
 next_found None = None
-next_found (Some p) = Some (field p.0.named.now.name.now p.0.inside.now, p.1.now)
+next_found (Some p) = Some (field (marked_of p.0.called) p.0.inside.now, p.1.now)
 
 -- what is found, after which this is expected
 abbrev pub place_found : Option Found → Content → Option (Field × Expected)
 place_found None c = None
-place_found (Some f) c = Some (field f.named.now.name.now f.inside.now, expected_of c)
+place_found (Some f) c = Some (field (marked_of f.called) f.inside.now, expected_of c)
 
 abbrev pub selection_in : Option (Bor Selection) → List Component
 selection_in None = []

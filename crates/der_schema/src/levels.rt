@@ -7,8 +7,7 @@ ghost use Rattle.der_schema.specs.Opened.{name_in, opened_past, seen};
 ghost use Rattle.der_schema.specs.Steps.{encoding_of, items_at, label_by};
 
 use crate::level::{Level, may_all_end};
-use crate::matching::{Known, Step, has_items};
-use crate::schema::Component;
+use crate::matching::{Called, Known, Step, has_items};
 use der_walk::Element;
 
 /// How many contents are open at most: the input, and that of each element around one and of itself.
@@ -88,13 +87,9 @@ impl Levels {
         }
     }
 
-    /// Goes past an element, and returns the component that has its name.
+    /// Goes past an element, and returns what it is called.
     #[inline(never)]
-    pub(crate) fn pass(
-        &mut self,
-        element: &Element<'_>,
-        known: &Known<'_>,
-    ) -> Option<&'static Component>
+    pub(crate) fn pass(&mut self, element: &Element<'_>, known: &Known<'_>) -> Option<Called>
         ensures opened { element.now.depth ≤ 100 → states_in (all_types known.now.types.now) self.new
             ≡ opened_past (states_in (all_types known.now.types.now) self.old)
             (seen element.now.depth (encoding_of known.now element.now)) }
@@ -113,7 +108,7 @@ impl Levels {
         self.whole = self.is_whole_inside(depth);
         let step = self.cells.pass(element, known);
         self.len = depth + 2;
-        step.named
+        step.called
     }
 
     /// Whether each content has all its components, if they end here.

@@ -15,4 +15,4 @@ pub use known::{KnownType, first_named, first_of, is_of_type};
 pub use matching::Name;
 pub use name_path::{NamePath, NameStep};
 pub use namer::Namer;
-pub use schema::Schema;
+pub use schema::{Schema, Secrecy};

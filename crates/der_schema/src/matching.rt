@@ -5,12 +5,13 @@ ghost use Rattle.der_schema.specs.Encodings.{octets_at};
 ghost use Rattle.der_schema.specs.Meaning.{all_types, alternative_in, as_alternative, as_plain, as_numbered};
 ghost use Rattle.der_schema.specs.Meaning.{as_referred, as_selected, chosen_in, components_of};
 ghost use Rattle.der_schema.specs.Meaning.{expected_of, field_of, first_content, fits, found_in, has_items, member_in};
-ghost use Rattle.der_schema.specs.Meaning.{name_or, next_in, opened, selected_by, selected_past, tagged_field};
+ghost use Rattle.der_schema.specs.Meaning.{mark_of, marked_of, marked_or, next_in, opened, secret_or, selected_by};
+ghost use Rattle.der_schema.specs.Meaning.{selected_past, tagged_field};
 ghost use Rattle.der_schema.specs.Steps.{around, component_in, encoding_of, label_by, label_of, next_found};
 ghost use Rattle.der_schema.specs.Steps.{selection_in};
 
 use crate::level::{Content, Level, nothing_selected};
-use crate::schema::{Class, Component, Form, Inside, Selection, Type};
+use crate::schema::{Class, Component, Form, Inside, Secrecy, Selection, Type};
 use der_walk::Element;
 
 /// The name of an element.
@@ -21,6 +22,8 @@ pub struct Name {
     /// Whether the element is an item, which its index tells apart: of a SEQUENCE OF or SET OF, or of a content that no
     /// type describes.
     pub is_item: bool,
+    /// Whether a type marks it as secret. So is then what is in it, whatever that is called.
+    pub secrecy: Secrecy,
 }
 
 /// What the types of elements depend on besides their components and the last identifier.
@@ -32,18 +35,25 @@ pub(crate) struct Known<'a> {
     pub types: &'a [&'static Component],
 }
 
+/// What an element is called, and how secret it is by the components that it is, each of which refers to the next.
+#[derive(Clone, Copy)]
+pub(crate) struct Called {
+    /// The component that has its name.
+    pub named: &'static Component,
+    pub secrecy: Secrecy,
+}
+
 /// An element that is in a schema.
 #[derive(Clone, Copy)]
 pub(crate) struct Found {
-    /// The component that has its name.
-    pub named: &'static Component,
+    pub called: Called,
     pub inside: &'static Inside,
 }
 
-/// What a schema says of an element: the component that has its name, what is expected inside it, and after it.
+/// What a schema says of an element: what it is called, what is expected inside it, and after it.
 #[derive(Clone, Copy)]
 pub(crate) struct Step {
-    pub named: Option<&'static Component>,
+    pub called: Option<Called>,
     pub inside: Level,
     pub after: Level,
 }
@@ -66,7 +76,7 @@ impl Level {
                 let (expected, later) = entered(found.inside, element, known, selected);
                 self.selected = later;
                 Step {
-                    named: Some(found.named),
+                    called: Some(found.called),
                     inside: Level { expected, selected },
                     after: *self,
                 }
@@ -74,7 +84,7 @@ impl Level {
             None => {
                 self.expected = Content::NoElement;
                 Step {
-                    named: None,
+                    called: None,
                     inside: *self,
                     after: *self,
                 }
@@ -92,7 +102,7 @@ impl Level {
     {
         match self.expected {
             Content::NoElement => None,
-            Content::Anything => Some(Found::any(&NAMELESS)),
+            Content::Anything => Some(Found::any(Called::of(&NAMELESS))),
             Content::Ordered(components) => {
                 let (found, rest) = next_of(components, element, self.selected, known)?;
                 self.expected = Content::Ordered(rest);
@@ -113,32 +123,73 @@ static ANY_ELEMENTS: Inside = Inside::Free;
 static NAMELESS: Component = Component {
     name: "",
     optional: false,
+    secrecy: Secrecy::Public,
     kind: Type::Any,
 };
+
+impl Secrecy {
+    /// That of what is both: the one that lets less be printed.
+    fn or(self, other: Secrecy) -> Secrecy
+        ensures { result ≡ secret_or self other }
+    {
+        match (self, other) {
+            (Secrecy::Public, _) | (_, Secrecy::Secret) => other,
+            _ => self,
+        }
+    }
+}
+
+impl Called {
+    /// By this component alone.
+    #[inline(always)]
+    fn of(component: &'static Component) -> Called
+        ensures { marked_of result ≡ mark_of component.now }
+    {
+        Called {
+            named: component,
+            secrecy: component.secrecy,
+        }
+    }
+
+    /// By this, or by another if this has no name. It is secret if one of them is.
+    #[inline(always)]
+    fn or(self, other: Called) -> Called
+        ensures { marked_of result ≡ marked_or (marked_of self) (marked_of other) }
+    {
+        let secrecy = self.secrecy.or(other.secrecy);
+        let named = if self.named.name.is_empty() {
+            other.named
+        } else {
+            self.named
+        };
+        Called { named, secrecy }
+    }
+}
 
 impl Found {
     ghost use Rattle.std.specs.Prelude.{[]};
     ghost use Rattle.der_schema.specs.Meaning.{any_elements, field};
 
-    /// Any element, with the name of this component.
-    fn any(named: &'static Component) -> Found
-        ensures { field_of (Some result) ≡ Some (field named.now.name.now any_elements) }
+    /// Any element that is called so.
+    fn any(called: Called) -> Found
+        ensures { field_of (Some result) ≡ Some (field (marked_of called) any_elements) }
     {
         Found {
-            named,
+            called,
             inside: &ANY_ELEMENTS,
         }
     }
 }
 
-/// The name of an element in the schema, which this component has.
-pub(crate) fn name_by(named: Option<&'static Component>, is_item: bool) -> Option<Name>
-    ensures { label_of result ≡ label_by is_item named.entry }
+/// The name of an element in the schema that is called so.
+pub(crate) fn name_by(called: Option<Called>, is_item: bool) -> Option<Name>
+    ensures { label_of result ≡ label_by is_item called }
 {
-    match named {
-        Some(named) => Some(Name {
-            text: named.name,
+    match called {
+        Some(called) => Some(Name {
+            text: called.named.name,
             is_item,
+            secrecy: called.secrecy,
         }),
         None => None,
     }
@@ -330,14 +381,12 @@ fn found_as(
 {
     match &component.kind {
         Type::Tagged(class, number, form, inside) => {
-            let found = Found {
-                named: component,
-                inside,
-            };
+            let called = Called::of(component);
+            let found = Found { called, inside };
             tagged_as(*class, *number, *form, element, known, found)
         }
-        Type::Selected => selected_as(selected, element, known, component),
-        _ => referred_as(component, element, known, component),
+        Type::Selected => selected_as(selected, element, known, Called::of(component)),
+        _ => referred_as(component, element, known, Called::of(component)),
     }
 }
 
@@ -347,47 +396,53 @@ fn selected_as(
     selected: &'static Selection,
     element: &Element<'_>,
     known: &Known<'_>,
-    named: &'static Component,
+    called: Called,
 ) -> Option<Found>
     ensures { field_of result
-        ≡ as_selected (around selected.now known.now) (encoding_of known.now element.now) named.now.name.now }
+        ≡ as_selected (around selected.now known.now) (encoding_of known.now element.now) (marked_of called) }
 {
     match selected.components {
-        [selected, ..] => referred_as(selected, element, known, named_or(selected, named)),
-        [] => Some(Found::any(named)),
+        [selected, ..] => {
+            let called = Called::of(selected).or(called);
+            referred_as(selected, element, known, called)
+        }
+        [] => Some(Found::any(called)),
     }
 }
 
-/// An element as this component, which may be a type by its index, under this name.
+/// An element as this component, which may be a type by its index, called so.
 #[inline(always)]
 fn referred_as(
     component: &'static Component,
     element: &Element<'_>,
     known: &Known<'_>,
-    named: &'static Component,
+    called: Called,
 ) -> Option<Found>
     ensures { field_of result ≡ as_referred component.now (all_types known.now.types.now)
-        (encoding_of known.now element.now) named.now.name.now }
+        (encoding_of known.now element.now) (marked_of called) }
 {
     match component.kind {
-        Type::Numbered(index) => numbered_as(index, element, known, named),
-        _ => plain_as(component, element, known, named),
+        Type::Numbered(index) => numbered_as(index, element, known, called),
+        _ => plain_as(component, element, known, called),
     }
 }
 
-/// An element of the type with this index, under this name or else that of the type.
+/// An element of the type with this index, called so or else by the name of the type.
 #[inline(always)]
 fn numbered_as(
     index: usize,
     element: &Element<'_>,
     known: &Known<'_>,
-    named: &'static Component,
+    called: Called,
 ) -> Option<Found>
     ensures { field_of result ≡ as_numbered (slice_get (all_types known.now.types.now) index)
-        (encoding_of known.now element.now) named.now.name.now }
+        (encoding_of known.now element.now) (marked_of called) }
 {
     match type_at(known.types, index) {
-        Some(numbered) => plain_as(numbered, element, known, named_or(named, numbered)),
+        Some(numbered) => {
+            let called = called.or(Called::of(numbered));
+            plain_as(numbered, element, known, called)
+        }
         None => None,
     }
 }
@@ -399,18 +454,18 @@ fn type_at(types: &[&'static Component], index: usize) -> Option<&'static Compon
     types.get(index).copied()
 }
 
-/// An element as this component, which nothing else says, under this name.
+/// An element as this component, which nothing else says, called so.
 #[inline(always)]
 fn plain_as(
     component: &'static Component,
     element: &Element<'_>,
     known: &Known<'_>,
-    named: &'static Component,
+    called: Called,
 ) -> Option<Found>
-    ensures { field_of result ≡ as_plain component.now (encoding_of known.now element.now) named.now.name.now }
+    ensures { field_of result ≡ as_plain component.now (encoding_of known.now element.now) (marked_of called) }
 {
     match &component.kind {
-        Type::Any => Some(Found::any(named)),
+        Type::Any => Some(Found::any(called)),
         Type::Tagged(class, number, form, inside) => {
             tagged_as(
                 *class,
@@ -418,10 +473,10 @@ fn plain_as(
                 *form,
                 element,
                 known,
-                Found { named, inside },
+                Found { called, inside },
             )
         }
-        Type::Choice(alternatives) => alternative_of(alternatives, element, known, named),
+        Type::Choice(alternatives) => alternative_of(alternatives, element, known, called),
         Type::Selected | Type::Numbered(_) => None,
     }
 }
@@ -432,10 +487,10 @@ fn alternative_of(
     alternatives: &'static [Component],
     element: &Element<'_>,
     known: &Known<'_>,
-    choice: &'static Component,
+    choice: Called,
 ) -> Option<Found>
     ensures { field_of result
-        ≡ alternative_in alternatives.now (encoding_of known.now element.now) choice.now.name.now }
+        ≡ alternative_in alternatives.now (encoding_of known.now element.now) (marked_of choice) }
 {
     let mut ahead = alternatives;
     while let Some((alternative, rest)) = ahead.split_first() {
@@ -453,31 +508,25 @@ fn as_alternative(
     alternative: &'static Component,
     element: &Element<'_>,
     known: &Known<'_>,
-    choice: &'static Component,
+    choice: Called,
 ) -> Option<Found>
-    ensures { field_of result ≡ as_alternative alternative.now (encoding_of known.now element.now) choice.now.name.now }
+    ensures { field_of result
+        ≡ as_alternative alternative.now (encoding_of known.now element.now) (marked_of choice) }
 {
     match &alternative.kind {
         Type::Tagged(class, number, form, inside) => {
-            let named = named_or(alternative, choice);
+            let called = Called::of(alternative).or(choice);
             tagged_as(
                 *class,
                 *number,
                 *form,
                 element,
                 known,
-                Found { named, inside },
+                Found { called, inside },
             )
         }
         _ => None,
     }
-}
-
-/// The component of these two that has the name: the first, or the second if the first has none.
-fn named_or(one: &'static Component, other: &'static Component) -> &'static Component
-    ensures { result.now.name.now ≡ name_or one.now.name.now other.now.name.now }
-{
-    if one.name.is_empty() { other } else { one }
 }
 
 /// What is found, if an element has this tag and form.
@@ -490,7 +539,7 @@ fn tagged_as(
     found: Found,
 ) -> Option<Found>
     ensures { field_of result ≡ tagged_field class number form (encoding_of known.now element.now)
-        found.named.now.name.now found.inside.now }
+        (marked_of found.called) found.inside.now }
 {
     if class == element.class && number == element.number && fits(form, element.constructed) {
         Some(found)

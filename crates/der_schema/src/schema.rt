@@ -21,6 +21,16 @@ pub enum Form {
     Either,
 }
 
+/// Whether the content octets of an element may be printed.
+#[derive(Clone, Copy, Debug, PartialEq)]
+pub enum Secrecy {
+    Public,
+    /// Not where no element inside is visited, as those of a string in pieces, since a private key may be in it.
+    SecretUnread,
+    /// Not at all: they are or hold a private key.
+    Secret,
+}
+
 /// A component of a SEQUENCE or SET (X.680 25, 27), an item of a list (26, 28), an alternative of a CHOICE (29), or an
 /// element of an input.
 #[cycle(schema)]
@@ -30,6 +40,8 @@ pub struct Component {
     pub name: &'static str,
     /// Whether it is OPTIONAL or has a DEFAULT.
     pub optional: bool,
+    /// Whether what is this component is secret, whatever its type and its name are.
+    pub secrecy: Secrecy,
     pub kind: Type,
 }
 
@@ -85,11 +97,15 @@ pub struct Selection {
     pub components: &'static [Component],
 }
 
-/// A mandatory component: `field!("serialNumber" INTEGER)`.
+/// A mandatory component: `field!("serialNumber" INTEGER)`. One that is secret:
+/// `field!("privateKey" OCTET_STRING => Secret)`.
 #[macro_export]
 macro_rules! field {
     ($name:literal $kind:expr) => {
-        $crate::schema::Component { name: $name, optional: false, kind: $kind }
+        $crate::component!($name false Public $kind)
+    };
+    ($name:literal $kind:expr => $secrecy:ident) => {
+        $crate::component!($name false $secrecy $kind)
     };
 }
 
@@ -97,7 +113,23 @@ macro_rules! field {
 #[macro_export]
 macro_rules! optional {
     ($name:literal $kind:expr) => {
-        $crate::schema::Component { name: $name, optional: true, kind: $kind }
+        $crate::component!($name true Public $kind)
+    };
+    ($name:literal $kind:expr => $secrecy:ident) => {
+        $crate::component!($name true $secrecy $kind)
+    };
+}
+
+/// A component that may be absent or not, and is secret or not.
+#[macro_export]
+macro_rules! component {
+    ($name:literal $optional:literal $secrecy:ident $kind:expr) => {
+        $crate::schema::Component {
+            name: $name,
+            optional: $optional,
+            secrecy: $crate::schema::Secrecy::$secrecy,
+            kind: $kind,
+        }
     };
 }
 

@@ -4,13 +4,13 @@
 //! A line of input has a word for a type, and octets. The lines of output are the name of the type, those of the
 //! elements up to their types, and how the input fits the type.
 
-use anyhow::{Context, Result};
+use anyhow::{Context, Result, ensure};
 use der_base::rules::Rules;
 use der_fields::{Named, schema_named, write_fields};
 use der_known::KnownTypes;
 use der_print::{Limit, Style};
 use der_schema::Schema;
-use der_walk::Walk;
+use der_walk::{Element, Walk};
 use std::io::Read;
 
 /// Values are whole.
@@ -48,14 +48,31 @@ fn print_fields(rt: &HostRuntime, octets: &[u8], schema: Schema<'_>) -> Result<(
     Ok(())
 }
 
-/// Prints the lines of the elements of an input, each up to the type.
+/// What a line of a secret element ends with.
+const SECRET: &str = " (secret)";
+
+/// Prints the lines of the elements of an input, each up to the type, and whether it is secret.
 fn print_without_values(rt: &HostRuntime, octets: &[u8], text: &str) -> Result<()> {
     let mut walk = Walk::new(octets, Rules::Der, true);
-    for line in text.lines() {
-        let element = walk.next_element().ok().flatten().context("an element")?;
-        let kind = format!(in rt.alloc(); "{}", element.name())?;
-        let begin = line.find(kind.as_str()).context("a type")?;
-        println!(rt; "{}", &line[..begin + kind.len()])?;
+    let mut lines = text.lines();
+    let mut ahead = lines.next();
+    while let (Some(line), Ok(Some(element))) = (ahead, walk.next_element()) {
+        let (offset, _) = line.trim_start().split_once(' ').context("an offset")?;
+        // An element inside a secret one has no line.
+        if offset.parse::<usize>()? == element.offset {
+            print_up_to_type(rt, line, &element)?;
+            ahead = lines.next();
+        }
     }
+    ensure!(ahead.is_none(), "a line of no element");
+    Ok(())
+}
+
+/// Prints the line of an element up to its type, and whether it is secret.
+fn print_up_to_type(rt: &HostRuntime, line: &str, element: &Element<'_>) -> Result<()> {
+    let kind = format!(in rt.alloc(); "{}", element.name())?;
+    let begin = line.find(kind.as_str()).context("a type")?;
+    let end = if line.ends_with(SECRET) { SECRET } else { "" };
+    println!(rt; "{}{end}", &line[..begin + kind.len()])?;
     Ok(())
 }

@@ -13,7 +13,7 @@ use std::time::{Clock, Duration};
 use std::{io, str};
 
 /// A variable of the environment: its name and its value.
-type Variable = (&'static str, &'static str);
+pub type Variable = (&'static str, &'static str);
 
 /// Arguments, the program's name first, variables, and what the clock reads, with the files of another runtime.
 #[derive(Drop)]
@@ -163,7 +163,7 @@ impl Write for Broken {
 }
 
 /// A run with both streams on one screen: what it shows, and the status.
-fn on_screen(
+pub fn on_screen(
     rt: &(impl Files + AllocGlobal),
     arguments: &[&'static str],
     variables: &[Variable],

@@ -29,7 +29,7 @@ elements-preserved g c =
     let next = rw c.in-Ok-Some.field-0-is at (c.in-Ok-Some.ensures.visits (extras_of o) o.rules i p.elements p.visited) in
     let entered = c.in_ok-enter-in-Ok-Some.ensures in
     let path = path_entered p.elements (visited_of e) c.elements.trail.steps.items c.enter.new.self.steps.items e.index p.path next.2 entered in
-    let named = (c.name_of.ensures p.schema i p.elements p.named next.3 next.2).0 in
+    let named = (c.field_of.ensures p.schema i p.elements p.named next.3 next.2).0 in
     record {
       looked =
           looked_more (visited_of e) e.index p next.0 next.2 entered named
@@ -49,7 +49,7 @@ returns-then-asked-clause-read g c =
     let new = g.W.Write.contents c.write_octets.new.out in
     let next = rw c.in-Ok-Some.field-0-is at (c.in-Ok-Some.ensures.visits (extras_of o) o.rules i p.elements p.visited) in
     let path = path_entered p.elements v c.elements.trail.steps.items c.enter.new.self.steps.items e.index p.path next.2 c.in_ok-enter-in-Ok-Some.ensures in
-    let named = (c.name_of.ensures p.schema i p.elements p.named next.3 next.2).0 in
+    let named = (c.field_of.ensures p.schema i p.elements p.named next.3 next.2).0 in
     let asked = (c.in_ok-asked-in-Ok-Some.ensures p.schema i p.elements (follows o.place c.enter.new.self _ path) named).0 c.if-asked.true in
     λ as_asked. then_reads c.write_octets.result (AreWrittenOf o i v mid new) (WritesPart o i old new)
     (λ w. record {
@@ -76,7 +76,7 @@ returns-then-asked-clause-refused g c =
     let new = g.W.Write.contents c.write_octets.new.out in
     let next = rw c.in-Ok-Some.field-0-is at (c.in-Ok-Some.ensures.visits (extras_of o) o.rules i p.elements p.visited) in
     let path = path_entered p.elements v c.elements.trail.steps.items c.enter.new.self.steps.items e.index p.path next.2 c.in_ok-enter-in-Ok-Some.ensures in
-    let named = (c.name_of.ensures p.schema i p.elements p.named next.3 next.2).0 in
+    let named = (c.field_of.ensures p.schema i p.elements p.named next.3 next.2).0 in
     let asked = (c.in_ok-asked-in-Ok-Some.ensures p.schema i p.elements (follows o.place c.enter.new.self _ path) named).0 c.if-asked.true in
     then_refuses c.write_octets.result (((w : List ℕ) → ¬ AreOctetsOf i v w) × (new ≡ mid)) (RefusesPart o i old new)
     (λ h. no_octets p.schema p.elements v p.named_by (_, next.0) p.not_asked asked h.0 (h.1 ∙ c.elements.invariant.same)) c.write_octets.ensures.refused

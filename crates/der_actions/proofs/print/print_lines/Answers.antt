@@ -17,7 +17,7 @@ elements-preserved g c =
     let o = c.args.options.now in
     let i = c.args.octets.now in
     let next = rw c.in-Ok-Some.field-0-is at (c.in-Ok-Some.ensures.visits (extras_of o) o.rules i p.elements p.visited) in
-    let named = c.name_of-field.ensures p.schema i p.elements p.named next.3 next.2 in
+    let named = c.field_of-field.ensures p.schema i p.elements p.named next.3 next.2 in
     record {
       printed =
           printed_more c.args.lines _ _ _ p next.0 next.1 named.0 named.1 (c.in_ok-is_listed-in-Ok-Some.ensures p.schema i o p.elements p.listed p.chosen next.2 named.0)

@@ -10,7 +10,7 @@ pub elements-init : goal.elements-init
 elements-init g c = record {
   so = written_none (table_of c.args.own) c.args.style _
       (c.keeping_values-walk.ensures (record { enters_strings = true; keeps_values = false }) c.args.rules
-      c.args.input.now c.new.ensures) c.new-namer.ensures;
+      c.args.input.now c.new.ensures) c.new-namer.ensures (c.new-secrets.ensures (root_of c.args.schema) c.args.input.now);
 }
 
 pub elements-preserved : goal.elements-preserved
@@ -23,8 +23,9 @@ elements-preserved g c =
     at (c.in-Ok-Some.ensures.visits all_extras c.args.rules i p.elements p.visited) in
     let named = c.name_of-name.ensures sc i p.elements p.named next.3 in
     record {
-      so = written_more e c.name_of-name.result _ _ p next.0 next.1 named c.text_of.ensures c.left_past-left.ensures
-          c.in_ok-write_line_of-in-Ok-Some.ensures;
+      so = written_more e c.name_of-name.result _ c.pass-exposure.result _ p next.0 next.1 named c.text_of-field.ensures
+          (c.pass-exposure.ensures sc i p.elements p.follows named.name) c.left_past-left.ensures
+          c.in_ok-write_exposed-in-Ok-Some.ensures;
     }
 
 pub returns-in-Ok-None-clause-writes : goal.returns-in-Ok-None-clause-writes

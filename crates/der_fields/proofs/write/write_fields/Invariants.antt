@@ -7,8 +7,8 @@ use Rattle.der_fields.proofs.write.write_fields.Given as goal
 -- the lines of the elements that were visited are written
 abbrev pub invariant-elements : goal.invariant-elements
 invariant-elements g l = record {
-  so : HasWritten (root_of l.fn.schema) l.fn.rules (table_of l.fn.own) l.fn.style l.fn.input l.walk l.namer l.left
-      (g.W.Write.contents l.fn.out) (g.W.Write.contents l.out);
+  so : HasWritten (root_of l.fn.schema) l.fn.rules (table_of l.fn.own) l.fn.style l.fn.input l.walk l.namer l.secrets
+      l.left (g.W.Write.contents l.fn.out) (g.W.Write.contents l.out);
 }
 
 abbrev pub decreases-elements : goal.decreases-elements

@@ -1,19 +1,21 @@
-use Rattle.std.proofs.Common.{Err, Ok, OnOk, Result, codes, subst, sym}
-use Rattle.std.proofs.KnownBytes.{Appends-trans}
-use Rattle.std.specs.Io.KnownBytes.{Appends}
-use Rattle.der_json.specs.Json.{IsJson}
+use Rattle.std.proofs.Common.{subst, sym}
+use Rattle.std.proofs.lemmas.Result.{on_ok_weaker}
+use Rattle.der_json.specs.Json.{IsWholeOf}
+use Rattle.der_print.specs.Names.{table_of}
+use Rattle.der_print.specs.Texts.{content_of}
+use Rattle.der_walk.specs.Walked.{visited_of}
 use Rattle.der_json.proofs.object.write_json.Goals as goal
-
--- what follows at Ok
-on_ok : {E : Type 0} (r : Result (Unit {0}) E) (P Q : Type 0) → (P → Q) → OnOk r P → OnOk r Q
-on_ok (Ok v) P Q f h = f h
-on_ok (Err e) P Q f h = tt
 
 pub returns : goal.returns
 returns g c =
-    on_ok c.write_all-2.result (Appends (g.W.Write.contents c.write_all.new.self) (g.W.Write.contents c.write_all-2.new.self) (codes "\n")) _
-    (λ end. record {
-      text = c.as_bytes.result.now;
-      is_json = subst IsJson (sym c.as_bytes.ensures.value) c.in_ok-text.ensures;
-      adds = Appends-trans _ _ _ _ _ c.in_ok-write_all.ensures.bytes end;
-    }) c.write_all-2.ensures.bytes
+    let e = c.args.element.now in
+    let P = IsWholeOf c.args.source (table_of c.args.own) (visited_of e) (content_of e) in
+    let o = c.in_ok-object.ensures in
+    on_ok_weaker c.write_object.result
+    (λ a. record {
+      object = a.object;
+      is = subst P (sym a.is) (o.source, o.octets, o.element);
+      text = a.text;
+      is_json = a.is_json;
+      adds = a.adds;
+    }) c.write_object.ensures
