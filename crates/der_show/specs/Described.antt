@@ -1,9 +1,10 @@
 -- What octets are, in words.
 use Rattle.std.specs.Prelude.{◌≡◌, ◌⊎◌, ◌↔◌, IsTrue, true, ℕ, Option, Some, None, List}
 use Rattle.der_known.specs.declared.known.KnownTypes.{KnownTypes}
+use Rattle.der_known.specs.Tables.{AreKnown}
 use Rattle.der_show.specs.declared.known.Known.{Known}
 use Rattle.der_show.specs.declared.words.Words.{Words}
-use Rattle.der_show.specs.Fields.{AreKnown, IsByFields}
+use Rattle.der_show.specs.Fields.{IsByFields}
 use Rattle.der_show.specs.Known.{IsKnown, KeepsRules}
 use Rattle.der_show.specs.Messages.{IsMessage}
 use Rattle.der_show.specs.Shown.{IsShown}

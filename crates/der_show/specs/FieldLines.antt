@@ -1,6 +1,7 @@
 -- What the private functions that write the lines of a type find.
-use Rattle.std.specs.Prelude.{◌≡◌, ◌↔◌, ℕ, Bool, true, false, IsTrue, ◌&&◌, nat_lt, Option, Some, None}
+use Rattle.std.specs.Prelude.{◌≡◌, ◌↔◌, ℕ, Bool, true, false, IsTrue, ◌&&◌, Option, Some}
 use Rattle.std.specs.Prelude.{List, ◌++◌, length}
+use Rattle.der_fields.specs.Secrets.{is_inside, secret_text}
 use Rattle.der_print.specs.Lines.{IsFieldLine}
 use Rattle.der_print.specs.Texts.{content_of}
 use Rattle.der_schema.specs.declared.schema.Schema.{Schema}
@@ -12,16 +13,11 @@ use Rattle.der_show.specs.declared.known.Known.{Known}
 use Rattle.der_show.specs.declared.manner.Manner.{Manner}
 use Rattle.der_show.specs.declared.manner.Manner.TheVariants.{InLeaf, InWords, Plain, Secret}
 use Rattle.der_show.specs.declared.words.Words.{Words}
-use Rattle.der_show.specs.Fields.{AreShown, Said, fields_style}
+use Rattle.der_show.specs.Fields.{AreShown, Said}
 use Rattle.der_show.specs.InWords.{octets_in}
 use Rattle.der_show.specs.Known.{IsKnown, KeepsRules}
-use Rattle.der_show.specs.Leaves.{leaf_line, secret_end, words_end}
+use Rattle.der_show.specs.Leaves.{fields_style, leaf_line, words_text}
 use Rattle.der_show.specs.Shown.{IsShown}
-
--- an element with so many around it is in the leaf that goes on, if there is one
-abbrev pub is_inside : Option ℕ → ℕ → Bool
-is_inside None depth = false
-is_inside (Some d) depth = nat_lt d depth
 
 -- how an element of an input is shown that is secret or not, where this leaf goes on
 abbrev pub IsManner : Option ℕ → List ℕ → Element → Bool → Manner → Type 0
@@ -58,9 +54,9 @@ pub record AddsWords (now : Option ℕ) (w : List ℕ) (known : Known) (old new 
 -- by what is written of an element that is shown so
 abbrev pub AddsShown : Option ℕ → Manner → List ℕ → Element → Written → Written → Type 0
 AddsShown now InLeaf field e old new = new ≡ old
-AddsShown now Secret field e old new = AddsLine (leaf_line secret_end field (visited_of e)) old new
+AddsShown now Secret field e old new = AddsLine (leaf_line secret_text field (visited_of e)) old new
 AddsShown now (InWords w known) field e old new = (mid : Written)
-    × AddsLine (leaf_line words_end field (visited_of e)) old mid × AddsWords now w.now known mid new
+    × AddsLine (leaf_line words_text field (visited_of e)) old mid × AddsWords now w.now known mid new
 AddsShown now Plain field e old new = (line : List ℕ)
     × IsFieldLine field fields_style (visited_of e) (content_of e) line × AddsLine line old new
 

@@ -1,27 +1,20 @@
 -- Octets that are of a known type, by the names of their fields.
 use Rattle.std.specs.Prelude.{◌≡◌, ◌⊎◌, ◌↔◌, ℕ, Bool, true, false, IsTrue, ◌&&◌, Option, Some, None}
-use Rattle.std.specs.Prelude.{List, [], ◌∷◌, ◌++◌, codes, length, map}
+use Rattle.std.specs.Prelude.{List, [], ◌∷◌, ◌++◌, codes, length}
 use Rattle.der_base.specs.declared.rules.Rules.TheVariants.{Ber}
+use Rattle.der_fields.specs.Secrets.{IsSecret, secret_text}
 use Rattle.der_known.specs.declared.known.KnownTypes.{KnownTypes}
-use Rattle.der_known.specs.Names.{known_names}
-use Rattle.der_print.specs.declared.style.Limit.TheVariants.{Front}
-use Rattle.der_print.specs.declared.style.Style.{Style}
 use Rattle.der_print.specs.Lines.{IsFieldLine, content_in}
 use Rattle.der_schema.specs.declared.schema.Schema.{Schema}
 use Rattle.der_schema.specs.Known.{IsFirstSchema, IsOfType, all_extras, root_at}
-use Rattle.der_schema.specs.Meaning.{all_types}
+use Rattle.der_schema.specs.Meaning.{all_types, root_of}
 use Rattle.der_walk.specs.Visits.{Visited, Visits}
 use Rattle.der_show.specs.declared.known.Known.{Known}
 use Rattle.der_show.specs.declared.words.Words.{Words}
 use Rattle.der_show.specs.InWords.{octets_in}
 use Rattle.der_show.specs.Known.{IsKnown, KeepsRules}
-use Rattle.der_show.specs.Leaves.{IsInLeaf, leaf_line, secret_end, words_end}
-use Rattle.der_show.specs.Secrets.{IsSecret, field_of}
+use Rattle.der_show.specs.Leaves.{IsInLeaf, field_of, fields_style, leaf_line, words_text}
 use Rattle.der_show.specs.Shown.{IsShown}
-
--- of a long value its first octets or characters are written, without colours
-abbrev pub fields_style : Style
-fields_style = record { limit = Front; colours = false }
 
 -- what is said of elements: their lines, the words of those that are certificates, lists or requests, and that these
 -- break no rule
@@ -46,13 +39,13 @@ joined a b = record {
 -- it is, or its line, with the name of its field
 pub data IsSaid (now : Option ℕ) (sc : Schema) (i : List ℕ) (before : List Visited) (v : Visited) : Said → Type 0 where
   in_leaf : {s : Said} → IsInLeaf sc i before v → s ≡ lines_alone [] → IsSaid now sc i before v s
-  secret : {s : Said} → ¬ IsInLeaf sc i before v → IsSecret sc i before v
-      → s ≡ lines_alone (leaf_line secret_end (field_of sc i before v) v) → IsSaid now sc i before v s
-  in_words : {s : Said} (known : Known) → ¬ IsInLeaf sc i before v → ¬ IsSecret sc i before v
-      → IsKnown (octets_in i v) (Some known) → s.lines ≡ leaf_line words_end (field_of sc i before v) v
+  secret : {s : Said} → ¬ IsInLeaf sc i before v → IsSecret (root_of sc) i before v
+      → s ≡ lines_alone (leaf_line secret_text (field_of sc i before v) v) → IsSaid now sc i before v s
+  in_words : {s : Said} (known : Known) → ¬ IsInLeaf sc i before v → ¬ IsSecret (root_of sc) i before v
+      → IsKnown (octets_in i v) (Some known) → s.lines ≡ leaf_line words_text (field_of sc i before v) v
       → IsShown now (octets_in i v) known s.words → IsTrue s.keeps_rules ↔ KeepsRules known
       → IsSaid now sc i before v s
-  plain : {s : Said} (line : List ℕ) → ¬ IsInLeaf sc i before v → ¬ IsSecret sc i before v
+  plain : {s : Said} (line : List ℕ) → ¬ IsInLeaf sc i before v → ¬ IsSecret (root_of sc) i before v
       → IsKnown (octets_in i v) None → IsFieldLine (field_of sc i before v) fields_style v (content_in i v) line
       → s ≡ lines_alone line → IsSaid now sc i before v s
 
@@ -93,7 +86,3 @@ IsByFields now types i (Some w) = (sc : Schema) × IsTypeOf types i (Some sc) ×
     × AreWordsByFields now sc i w
 IsByFields now types i None = IsTypeOf types i None
     ⊎ ((sc : Schema) × IsTypeOf types i (Some sc) × IsReadAlone sc.name.now)
-
--- the types have the names of the documents
-abbrev pub AreKnown : KnownTypes → Type 0
-AreKnown types = map (λ k. k.name.now) types.known.now ≡ known_names

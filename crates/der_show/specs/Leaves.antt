@@ -1,35 +1,35 @@
 -- Elements whose inside has no lines: secret ones, and those that are written in words.
-use Rattle.std.specs.Prelude.{◌≡◌, ◌⊎◌, ℕ, ◌<◌, false, List, ◌∷◌, [], ◌++◌, codes}
+use Rattle.std.specs.Prelude.{◌⊎◌, ℕ, false, List, codes}
+use Rattle.der_fields.specs.Fields.{label_after, label_text}
+use Rattle.der_fields.specs.Secrets.{IsInOne, IsSecret}
 use Rattle.der_print.specs.declared.style.Limit.TheVariants.{Front}
-use Rattle.der_print.specs.Lines.{front_text}
+use Rattle.der_print.specs.declared.style.Style.{Style}
+use Rattle.der_print.specs.Lines.{outline}
 use Rattle.der_schema.specs.declared.schema.Schema.{Schema}
+use Rattle.der_schema.specs.Meaning.{root_of}
 use Rattle.der_walk.specs.Visits.{Visited}
 use Rattle.der_show.specs.InWords.{IsInWords}
-use Rattle.der_show.specs.Secrets.{IsSecret}
 
 -- an element after others of an input is a leaf
 abbrev pub IsLeaf : Schema → List ℕ → List Visited → Visited → Type 0
-IsLeaf sc i before v = IsSecret sc i before v ⊎ IsInWords i v
-
--- after these elements of an input a leaf, with so many elements around it, goes on: it is the last, or it went on
--- before the last, which is in it
-pub data IsOpen (sc : Schema) (i : List ℕ) : List Visited → ℕ → Type 0 where
-  begins : {us : List Visited} {depth : ℕ} (before : List Visited) (v : Visited) → us ≡ before ++ v ∷ []
-      → IsLeaf sc i before v → depth ≡ v.depth → IsOpen sc i us depth
-  goes_on : {us : List Visited} {depth : ℕ} (before : List Visited) (v : Visited) → us ≡ before ++ v ∷ []
-      → IsOpen sc i before depth → depth < v.depth → IsOpen sc i us depth
+IsLeaf sc i before v = IsSecret (root_of sc) i before v ⊎ IsInWords i v
 
 -- an element after others is in a leaf
 abbrev pub IsInLeaf : Schema → List ℕ → List Visited → Visited → Type 0
-IsInLeaf sc i before v = (depth : ℕ) × IsOpen sc i before depth × (depth < v.depth)
+IsInLeaf sc i before v = IsInOne (IsLeaf sc i) before v
 
--- the line of a leaf has this end in place of a value
+-- the name of the field that an element after others of an input is
+abbrev pub field_of : Schema → List ℕ → List Visited → Visited → List ℕ
+field_of sc i before v = label_text (label_after (root_of sc) i before v)
+
+-- of a long value its first octets or characters are written, without colours
+abbrev pub fields_style : Style
+fields_style = record { limit = Front; colours = false }
+
+-- the line of a leaf has this text in place of a value, and is the same whatever the content is
 abbrev pub leaf_line : List ℕ → List ℕ → Visited → List ℕ
-leaf_line end field v = front_text false Front field v ++ end
+leaf_line ending field v = outline ending field fields_style v
 
--- the end of the line of a secret one, and of one that is written in words
-abbrev pub secret_end : List ℕ
-secret_end = codes " (secret)\n"
-
-abbrev pub words_end : List ℕ
-words_end = codes " (in words below)\n"
+-- in place of the value of an element that is written in words
+abbrev pub words_text : List ℕ
+words_text = codes " (in words below)"

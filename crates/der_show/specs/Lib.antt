@@ -11,7 +11,6 @@ pub mod PlaceTexts
 pub mod Refused
 pub mod RefusedTexts
 pub mod Rules
-pub mod Secrets
 pub mod Shown
 pub mod Unread
 pub mod Why

@@ -4,6 +4,7 @@ use Rattle.crl_reader.specs.declared.list.CertificateList.{CertificateList as Li
 use Rattle.crl_reader.specs.declared.refusal.ListRefusal.{ListRefusal}
 use Rattle.crl_reader.specs.Lists.{field_fault as list_fault, whole_list}
 use Rattle.der_known.specs.declared.known.KnownTypes.{KnownTypes}
+use Rattle.der_known.specs.Tables.{AreKnown}
 use Rattle.der_request.specs.declared.request.CertificationRequest.{CertificationRequest as RequestStruct}
 use Rattle.der_request.specs.declared.refusal.RequestRefusal.{RequestRefusal}
 use Rattle.der_request.specs.Requests.{field_fault as request_fault, whole_request}
@@ -21,7 +22,6 @@ use Rattle.der_show.specs.declared.place.Place.{Place}
 use Rattle.der_show.specs.declared.refused.Refused.{Refused}
 use Rattle.der_show.specs.declared.refused.Refused.TheVariants.{Certificate, CertificateList, CertificationRequest}
 use Rattle.der_show.specs.declared.unread.Unread.{Unread}
-use Rattle.der_show.specs.Fields.{AreKnown}
 use Rattle.der_show.specs.Known.{Is, IsKnown, IsNo}
 use Rattle.der_show.specs.Places.{FindsPlace}
 use Rattle.der_show.specs.Refused.{ComesFirst, Refuses, offset_of, type_name}

@@ -10,15 +10,14 @@ ghost use Rattle.der_schema.specs.Steps.{label_of};
 ghost use Rattle.der_walk.specs.Visits.{Visited, Visits};
 ghost use Rattle.der_walk.specs.Walked.{visited_of};
 ghost use Rattle.der_show.specs.FieldLines.{AddsAll, AddsShown, AddsWords};
-ghost use Rattle.der_show.specs.Fields.{fields_style};
-ghost use Rattle.der_show.specs.Leaves.{leaf_line};
+ghost use Rattle.der_show.specs.Leaves.{fields_style, leaf_line};
 
 use crate::known::{Known, keeps_rules};
 use crate::manner::Manner;
-use crate::secret::is_secret;
 use crate::text::text_of_known;
 use der_base::rules::Rules;
-use der_print::{Limit, Room, Style, write_field_line};
+use der_fields::{SECRET, is_secret};
+use der_print::{Limit, Room, Style, write_field_line, write_outline};
 use der_schema::{Name, Namer, Schema};
 use der_walk::{Element, Walk};
 use std::alloc::{AllocError, Global};
@@ -29,11 +28,8 @@ const STYLE: Style = Style {
     colours: false,
 };
 
-/// What ends the line of a secret element.
-const SECRET: &[u8] = b" (secret)\n";
-
-/// What ends the line of an element that is written in words.
-const IN_WORDS: &[u8] = b" (in words below)\n";
+/// What is written in place of the value of an element that is written in words.
+const IN_WORDS: &str = " (in words below)";
 
 /// What is written of octets that are of a type.
 #[derive(Drop)]
@@ -66,8 +62,9 @@ pub(crate) fn with_lines(
     'elements: loop {
         match walk.next_element() {
             Ok(Some(element)) => {
-                let field = text_of(namer.name_of(&element));
-                let is_secret = is_secret(schema.name, field, element.holds.is_some());
+                let name = namer.name_of(&element);
+                let field = text_of(name);
+                let is_secret = is_secret(name, element.holds.is_some());
                 let manner = Manner::of(leaf, octets, &element, is_secret);
                 leaf = manner.leaf_past(leaf, element.depth);
                 add_element(
@@ -137,26 +134,21 @@ fn add_plain_line(
     }
 }
 
-/// Adds the line of an element without its value, as that of a constructed one, which has none, with this end.
+/// Adds the line of an element with this text in place of its value.
 fn add_leaf_line(
     text: &mut Vec<u8>,
     room: &mut Room,
     element: &Element<'_>,
     field: &str,
-    end: &[u8],
+    ending: &str,
 ) -> Result<(), AllocError>
     ensures { OnOk result
-        (text.new.items ≡ text.old.items ++ leaf_line end.now field.now (visited_of element.now)) }
+        (text.new.items ≡ text.old.items ++ leaf_line ending.now field.now (visited_of element.now)) }
 {
-    let without_value = Element {
-        constructed: true,
-        holds: None,
-        ..*element
-    };
-    add_plain_line(text, room, &without_value, field)?;
-    text.pop();
-    text.extend_from_slice(end)?;
-    Ok(())
+    match write_outline(text, room, element, field, ending, STYLE) {
+        Ok(()) => Ok(()),
+        Err(_) => Err(AllocError),
+    }
 }
 
 /// Adds the words of what octets are.

@@ -29,7 +29,6 @@ mod place_text;
 mod refused;
 mod refused_text;
 mod rules;
-mod secret;
 mod shown;
 mod snmp;
 mod text;

@@ -1,9 +1,10 @@
 //! How an element is shown among the lines of octets.
 ghost use Rattle.std.specs.Prelude.{◌≡◌};
-ghost use Rattle.der_show.specs.FieldLines.{IsManner, is_inside, leaf_past};
+ghost use Rattle.der_show.specs.FieldLines.{IsManner, leaf_past};
 
 use crate::known::{Known, what_is};
 use crate::part::octets_of;
+use der_fields::is_inside;
 use der_walk::Element;
 
 /// How an element is shown. Nothing in a leaf has a line.
@@ -53,15 +54,5 @@ impl<'a> Manner<'a> {
             Manner::InWords(..) => Some(depth),
             Manner::Plain => None,
         }
-    }
-}
-
-/// Whether an element with so many around it is in the leaf that goes on.
-fn is_inside(leaf: Option<usize>, depth: usize) -> bool
-    ensures { result ≡ is_inside leaf depth }
-{
-    match leaf {
-        Some(leaf) => leaf < depth,
-        None => false,
     }
 }

@@ -1,9 +1,10 @@
-use Rattle.std.proofs.Common.{◌↔◌, IsTrue, false, subst, true}
+use Rattle.std.proofs.Common.{Bool, false, ap, true, ◌∙◌}
 use Rattle.der_base.specs.declared.rules.Rules.TheVariants.{Ber}
 use Rattle.der_schema.specs.Known.{all_extras}
 use Rattle.der_schema.specs.Meaning.{root_of}
 use Rattle.der_schema.proofs.OfType.{no_elements}
-use Rattle.der_show.specs.Secrets.{IsSecretField}
+use Rattle.der_fields.specs.Secrets.{is_secret}
+use Rattle.der_schema.specs.Steps.{label_of}
 use Rattle.der_show.proofs.LeafLaws.{shown_more, shown_none}
 use Rattle.der_show.proofs.field_lines.with_lines.Goals as goal
 
@@ -20,12 +21,12 @@ elements-preserved c =
     let i = c.args.octets.now in
     let next = rw c.in-Ok-Some.field-0-is
     at (c.in-Ok-Some.ensures.visits all_extras Ber i p.elements p.visited) in
-    let named = c.name_of.ensures (root_of c.args.schema) i p.elements p.named next.3 in
-    let is_secret = subst (λ z. IsTrue c.is_secret-is_secret.result
-    ↔ IsSecretField c.args.schema.name.now c.text_of-field.result.now z) c.is_some.ensures c.is_secret-is_secret.ensures in
+    let named = c.name_of-name.ensures (root_of c.args.schema) i p.elements p.named next.3 in
+    let secret = c.is_secret-is_secret.ensures
+    ∙ ap (λ (b : Bool). is_secret (label_of c.name_of-name.result) b) c.is_some.ensures in
     record {
-      so = shown_more c.in-Ok-Some.element c.name_of.result c.text_of-field.result.now c.is_secret-is_secret.result
-          c.of-manner.result p next.0 next.1 named c.text_of-field.ensures is_secret c.of-manner.ensures
+      so = shown_more c.in-Ok-Some.element c.name_of-name.result c.text_of-field.result.now c.is_secret-is_secret.result
+          c.of-manner.result p next.0 next.1 named c.text_of-field.ensures secret c.of-manner.ensures
           c.in_ok-add_element-in-Ok-Some.ensures c.leaf_past-leaf.ensures;
     }
 
