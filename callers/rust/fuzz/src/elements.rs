@@ -19,11 +19,16 @@ pub fn tree(input: &[u8], rules: Rules, sink: &mut Sink) {
     rules.list(input, &mut few).ask(sink);
     Any::from_der(input).ask(sink);
     Any::from_ber(input).ask(sink);
+    Tree::parse_der(input).map(|tree| tree.len()).ask(sink);
+    Tree::parse_ber(input).map(|tree| tree.len()).ask(sink);
+    rules.max_depth().ask(sink);
     match rules.parse(input) {
         Ok((rest, tree)) => {
             let (after, any) = rules.any(input).unwrap();
             assert_eq!((after, any.octets()), (rest, tree.root().octets()));
             tree.ask(sink);
+            let again = rules.parse_with(input, tree.clone().into_elements());
+            assert_eq!(again.map(|(_, again)| again.len()), Ok(tree.len()));
             match written_again(&tree) {
                 Ok(octets) if rules.is_der() => assert_eq!(octets, tree.root().octets()),
                 // A time may have no value.

@@ -181,6 +181,7 @@ pub fn contents(input: &[u8], sink: &mut Sink) {
             w.enumerated(input.len() as u64);
             w.enumerated_i64(-(input.len() as i64));
             w.elements(input);
+            w.value_unless(&u32::from(*octet), &7)?;
             w.oid(&[2, 5, u64::from(*octet)])
         })
         .ask(sink);
