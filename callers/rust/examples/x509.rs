@@ -74,7 +74,11 @@ fn print(it: &Certificate<'_>) {
     println!("not before: {}", it.not_before());
     println!("not after: {}", it.not_after());
     println!("subject: {}", it.subject());
-    println!("key: {}, {}", it.public_key().algorithm().identifier(), size(&it.public_key()));
+    println!(
+        "key: {}, {}",
+        it.public_key().algorithm().identifier(),
+        size(&it.public_key())
+    );
     for extension in it.extensions() {
         let critical = if extension.is_critical() { " critical" } else { "" };
         println!(
@@ -92,9 +96,14 @@ fn size(key: &PublicKey<'_>) -> String {
     match RsaPublicKey::from_der(octets) {
         Ok(rsa) if key.algorithm().identifier() == RSA_ENCRYPTION => {
             let modulus = rsa.modulus().as_bytes();
-            let first = modulus.iter().position(|octet| *octet != 0).unwrap_or(modulus.len());
+            let first = modulus
+                .iter()
+                .position(|octet| *octet != 0)
+                .unwrap_or(modulus.len());
             let bits = 8 * (modulus.len() - first);
-            let unused = modulus.get(first).map_or(0, |octet| octet.leading_zeros() as usize);
+            let unused = modulus
+                .get(first)
+                .map_or(0, |octet| octet.leading_zeros() as usize);
             format!("{} bits", bits - unused)
         }
         _ => format!("{} octets", octets.len()),

@@ -143,7 +143,10 @@ pub(crate) fn found(outcome: Outcome, input: &[u8]) -> Result<Found> {
 pub(crate) fn whole<T>(input: &[u8], (rest, value): (&[u8], T)) -> Result<T> {
     match rest.len() {
         0 => Ok(value),
-        left => Err(Error::new(ErrorKind::TrailingData, input.len().saturating_sub(left))),
+        left => Err(Error::new(
+            ErrorKind::TrailingData,
+            input.len().saturating_sub(left),
+        )),
     }
 }
 

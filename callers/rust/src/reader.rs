@@ -188,7 +188,9 @@ impl<'a> Reader<'a> {
             },
             (Reason::CONSTRUCTED_EXPECTED, Some(tag)) => ErrorKind::ConstructedExpected(tag),
             (Reason::PRIMITIVE_EXPECTED, Some(tag)) => ErrorKind::PrimitiveExpected(tag),
-            (Reason::INVALID_TIME, Some(tag)) if tag.class == Class::Universal && self.clone().any().is_ok() => {
+            (Reason::INVALID_TIME, Some(tag))
+                if tag.class == Class::Universal && self.clone().any().is_ok() =>
+            {
                 ErrorKind::Value(Reason::INVALID_TIME)
             }
             _ => Error::of_fault(fault).kind(),

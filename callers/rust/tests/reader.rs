@@ -113,7 +113,10 @@ fn unused_bits() {
         assert_eq!((none.len(), none.bit(0), none.iter().next()), (0, None, None));
         let one = read(rules, &[3, 2, 7, 0x80]).unwrap();
         assert_eq!((one.len(), one.bit(0), one.bit(1)), (1, Some(true), None));
-        assert_eq!((one.iter().len(), one.iter().collect::<Vec<_>>()), (1, vec![true]));
+        assert_eq!(
+            (one.iter().len(), one.iter().collect::<Vec<_>>()),
+            (1, vec![true])
+        );
     }
     let implicit = Reader::with_rules(&[0x83, 1, 1], Rules::BER)
         .expect_implicit(Tag::context(3))

@@ -237,7 +237,10 @@ fn implicit_tags_that_are_left() {
         .unwrap()
     };
     assert_eq!(octets(&|w| assert!(w.ia5_string("é").is_err())), [0x82, 0]);
-    assert_eq!(octets(&|w| assert!(w.bmp_string("\u{1f600}").is_err())), [0x82, 0]);
+    assert_eq!(
+        octets(&|w| assert!(w.bmp_string("\u{1f600}").is_err())),
+        [0x82, 0]
+    );
     assert_eq!(octets(&|w| w.sequence(|w| w.null())), [0x30, 2, 5, 0, 5, 0]);
     assert_eq!(octets(&|w| w.set_of(|_| ())), [0x31, 0, 5, 0]);
     assert_eq!(octets(&|w| w.octet_string_of(|_| ())), [4, 0, 5, 0]);

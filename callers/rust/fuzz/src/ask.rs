@@ -1,7 +1,7 @@
 //! Asking a value for all that it has.
 use dumarewhi::{
-    Any, BitString, Class, Element, Error, ErrorKind, Found, Integer, Node, ObjectIdentifier, ObjectIdentifierBuf,
-    Reason, Tag, Time, Tree, Zone,
+    Any, BitString, Class, Element, Error, ErrorKind, Found, Integer, Node, ObjectIdentifier,
+    ObjectIdentifierBuf, Reason, Tag, Time, Tree, Zone,
 };
 use std::fmt::{self, Debug, Display, Write};
 use std::hint::black_box;
@@ -181,7 +181,10 @@ impl Ask for Integer<'_> {
         i16::try_from(*self).ask(sink);
         isize::try_from(*self).ask(sink);
         // One that a cursor read by BER may have no octets, or more than the fewest.
-        if let (Ok(zero), Ok(it)) = (Integer::from_content(&[0]), Integer::from_content(self.as_bytes())) {
+        if let (Ok(zero), Ok(it)) = (
+            Integer::from_content(&[0]),
+            Integer::from_content(self.as_bytes()),
+        ) {
             assert_eq!((it, it < zero), (*self, it.is_negative()));
         }
     }
@@ -194,12 +197,17 @@ impl Ask for ObjectIdentifier<'_> {
         self.arcs().for_each(|arc| arc.ask(sink));
         assert!(self.starts_with(*self) && self.cmp(self).is_eq());
         black_box(*self == "2.5.4.3");
-        ObjectIdentifier::from_content(self.as_bytes()).map(drop).ask(sink);
+        ObjectIdentifier::from_content(self.as_bytes())
+            .map(drop)
+            .ask(sink);
         let copy = ObjectIdentifierBuf::from(*self);
         assert!(copy == *self && copy.as_oid() == *self && copy.as_bytes() == self.as_bytes());
         sink.debug(&copy);
         if self.as_bytes().len() < 64 {
-            copy.to_string().parse::<ObjectIdentifierBuf>().map(drop).ask(sink);
+            copy.to_string()
+                .parse::<ObjectIdentifierBuf>()
+                .map(drop)
+                .ask(sink);
             let arcs: Vec<_> = self.arcs().collect();
             ObjectIdentifierBuf::from_arcs(&arcs).map(drop).ask(sink);
         }
@@ -214,7 +222,9 @@ impl Ask for Time {
         self.unix_seconds().ask(sink);
         assert!(self.cmp(self).is_eq());
         match SystemTime::try_from(*self).and_then(Time::try_from) {
-            Ok(time) if self.nanosecond < 1_000_000_000 => assert_eq!(time.unix_seconds(), self.unix_seconds()),
+            Ok(time) if self.nanosecond < 1_000_000_000 => {
+                assert_eq!(time.unix_seconds(), self.unix_seconds())
+            }
             _ => {}
         }
     }

@@ -91,8 +91,12 @@ impl Ask for GeneralName<'_> {
         black_box(self.ip_addr());
         match self {
             GeneralName::DirectoryName(name) => name.ask(sink),
-            GeneralName::RegisteredId(identifier) | GeneralName::OtherName { identifier, .. } => identifier.ask(sink),
-            GeneralName::Rfc822Name(text) | GeneralName::DnsName(text) | GeneralName::Uri(text) => text.ask(sink),
+            GeneralName::RegisteredId(identifier) | GeneralName::OtherName { identifier, .. } => {
+                identifier.ask(sink)
+            }
+            GeneralName::Rfc822Name(text) | GeneralName::DnsName(text) | GeneralName::Uri(text) => {
+                text.ask(sink)
+            }
             GeneralName::X400Address(octets) | GeneralName::EdiPartyName(octets) => octets.ask(sink),
             GeneralName::IpAddress(octets) => octets.ask(sink),
             _ => {}
@@ -150,7 +154,9 @@ impl Ask for Value<'_> {
             Value::SubjectKeyIdentifier(it) => it.ask(sink),
             Value::KeyUsage(it) => it.ask(sink),
             Value::CertificatePolicies(it) => it.ask(sink),
-            Value::SubjectAltName(it) | Value::IssuerAltName(it) | Value::CertificateIssuer(it) => it.ask(sink),
+            Value::SubjectAltName(it) | Value::IssuerAltName(it) | Value::CertificateIssuer(it) => {
+                it.ask(sink)
+            }
             Value::BasicConstraints(it) => it.ask(sink),
             Value::NameConstraints(it) => it.ask(sink),
             Value::ExtendedKeyUsage(it) => it.ask(sink),
@@ -180,13 +186,17 @@ pub fn certificate(input: &[u8], sink: &mut Sink) {
         it.fingerprint().as_slice().ask(sink);
     }
     read.ask(sink);
-    Certificate::from_strict_der(input).map(|it| it.version()).ask(sink);
+    Certificate::from_strict_der(input)
+        .map(|it| it.version())
+        .ask(sink);
 }
 
 pub fn list(input: &[u8], sink: &mut Sink) {
     let read = CertificateList::from_der(input);
     if let Ok(it) = &read {
-        let first = it.revoked_certificates().and_then(|entries| entries.iter().next());
+        let first = it
+            .revoked_certificates()
+            .and_then(|entries| entries.iter().next());
         let found = first.and_then(|entry| it.find(entry.serial_number()));
         assert_eq!(found, first);
     }

@@ -1,14 +1,17 @@
 //! Elements: listed, in a tree, from a stream, and written as DER.
 use crate::ask::{Ask, Sink};
 use dumarewhi::{
-    check_ber, check_der, list_ber, list_der, to_der, to_vec, write_der, Any, Buffer, Element, Node, Result, Rules, Tag,
-    Tree, Writer,
+    check_ber, check_der, list_ber, list_der, to_der, to_vec, write_der, Any, Buffer, Element, Node, Result,
+    Rules, Tag, Tree, Writer,
 };
 
 pub fn tree(input: &[u8], rules: Rules, sink: &mut Sink) {
     let shallow = rules.with_max_depth(input.len() % 8);
     shallow.check(input).ask(sink);
-    shallow.parse(input).map(|(rest, tree)| (rest.len(), tree.len())).ask(sink);
+    shallow
+        .parse(input)
+        .map(|(rest, tree)| (rest.len(), tree.len()))
+        .ask(sink);
     check_ber(input).ask(sink);
     check_der(input).ask(sink);
     rules.first_length(input).ask(sink);
@@ -46,7 +49,9 @@ fn written_again(tree: &Tree<'_>) -> Result<Vec<u8>> {
 
 fn write(w: &mut Writer<'_>, node: Node<'_, '_>) -> Result<()> {
     if node.is_constructed() {
-        return w.tagged(node.tag(), |w| node.children().try_for_each(|child| write(w, child)));
+        return w.tagged(node.tag(), |w| {
+            node.children().try_for_each(|child| write(w, child))
+        });
     }
     match node.tag() {
         Tag::BOOLEAN => w.boolean(node.as_bool()?),

@@ -1,8 +1,8 @@
 //! Fields: a reader whose calls the input chooses, types, and values of content octets.
 use crate::ask::{Ask, Sink};
 use dumarewhi::{
-    Any, BitString, Decode, Encode, Error, ErrorKind, Integer, ObjectIdentifier, ObjectIdentifierBuf, Reader, Result,
-    Rules, Tag, Time,
+    Any, BitString, Decode, Encode, Error, ErrorKind, Integer, ObjectIdentifier, ObjectIdentifierBuf, Reader,
+    Result, Rules, Tag, Time,
 };
 
 /// The calls are the first octets, and what is read is behind them.
@@ -98,7 +98,12 @@ fn field(r: &mut Reader<'_>, call: u8, calls: &mut dyn Iterator<Item = u8>, sink
             let tag = next();
             r.optional(tag, |r| r.any())?.ask(sink);
         }
-        29 => return Err(Error::new(ErrorKind::Other("an error of the caller's"), r.offset())),
+        29 => {
+            return Err(Error::new(
+                ErrorKind::Other("an error of the caller's"),
+                r.offset(),
+            ))
+        }
         _ => r.clone().any()?.reader()?.any()?.ask(sink),
     }
     Ok(())
@@ -106,7 +111,11 @@ fn field(r: &mut Reader<'_>, call: u8, calls: &mut dyn Iterator<Item = u8>, sink
 
 /// Reads a value, and writes it again: by DER it has the same octets.
 fn typed<'a, T: Decode<'a> + Encode + Ask>(input: &'a [u8], rules: Rules, sink: &mut Sink) {
-    let read = if rules.is_der() { T::from_der(input) } else { T::from_ber(input) };
+    let read = if rules.is_der() {
+        T::from_der(input)
+    } else {
+        T::from_ber(input)
+    };
     if let Ok(value) = &read {
         match value.to_der() {
             Ok(octets) if rules.is_der() => assert_eq!(octets, input),
@@ -149,7 +158,10 @@ pub fn contents(input: &[u8], sink: &mut Sink) {
     }
     let text = String::from_utf8_lossy(input);
     text.parse::<ObjectIdentifierBuf>().ask(sink);
-    let arcs: Vec<_> = input.chunks(3).map(|it| it.iter().fold(0, |sum, it| sum << 44 | u128::from(*it))).collect();
+    let arcs: Vec<_> = input
+        .chunks(3)
+        .map(|it| it.iter().fold(0, |sum, it| sum << 44 | u128::from(*it)))
+        .collect();
     if let Ok(identifier) = ObjectIdentifierBuf::from_arcs(&arcs) {
         assert!(identifier.as_oid().arcs().eq(arcs));
     }
@@ -170,7 +182,9 @@ pub fn contents(input: &[u8], sink: &mut Sink) {
             },
         };
         time.ask(sink);
-        time.to_der().map(|octets| assert_eq!(Time::from_der(&octets), Ok(time))).ask(sink);
+        time.to_der()
+            .map(|octets| assert_eq!(Time::from_der(&octets), Ok(time)))
+            .ask(sink);
     }
     for octet in input.iter().take(8) {
         let tag = tag_of(*octet);
