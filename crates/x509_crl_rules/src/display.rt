@@ -42,7 +42,9 @@ impl fmt::Display for EntryRule {
                 f.write_str("its date has a fraction of a second (RFC 5280 5.1.2.6)")
             }
             EntryRule::DistinctExtensions => {
-                f.write_str("an extension of it comes twice, or it has more than 512 (RFC 5280 5.3, 4.2)")
+                f.write_str(
+                    "an extension of it comes twice, or it has more than 512 (RFC 5280 5.3, 4.2)",
+                )
             }
             EntryRule::Without(known, fact) => { write!(f, "{known} {fact} ({})", section(*known)) }
         }
@@ -73,7 +75,8 @@ fn whole_list_text(rule: WholeListRule) -> &'static str {
             "a date before 2050 is a GeneralizedTime (RFC 5280 5.1.2.4)",
         WholeListRule::WholeSeconds => "a date has a fraction of a second (RFC 5280 5.1.2.4)",
         WholeListRule::NextUpdate => "there is no nextUpdate (RFC 5280 5.1.2.5)",
-        WholeListRule::DistinctExtensions => "an extension comes twice, or there are more than 512 (RFC 5280 5.2, 4.2)",
+        WholeListRule::DistinctExtensions =>
+            "an extension comes twice, or there are more than 512 (RFC 5280 5.2, 4.2)",
         WholeListRule::SomeEntries => "revokedCertificates is empty (RFC 5280 5.1.2.6)",
         WholeListRule::KeyIdentifierOfIssuer => {
             "no authorityKeyIdentifier has a keyIdentifier (RFC 5280 5.2.1)"

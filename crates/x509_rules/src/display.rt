@@ -41,7 +41,8 @@ fn field_text(rule: FieldRule) -> &'static str {
         FieldRule::WholeSeconds => "a time has a fraction of a second (RFC 5280 4.1.2.5.2)",
         FieldRule::UniqueIdVersion => "a unique identifier in version 1 (RFC 5280 4.1.2.8)",
         FieldRule::ExtensionsVersion => "extensions before version 3 (RFC 5280 4.1.2.9)",
-        FieldRule::DistinctExtensions => "an extension comes twice, or there are more than 512 (RFC 5280 4.2)",
+        FieldRule::DistinctExtensions =>
+            "an extension comes twice, or there are more than 512 (RFC 5280 4.2)",
         FieldRule::NamedSubject =>
             "the subject has no name, and no critical subjectAltName (RFC 5280 4.1.2.6)",
         FieldRule::DerValues => "a value of any type isn't in DER (X.690 10)",

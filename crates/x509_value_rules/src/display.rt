@@ -28,7 +28,8 @@ pub fn value_text(rule: ValueRule) -> &'static str {
         ValueRule::OfType(_) => "it isn't of its type (RFC 5280 4.2, 5.2, 5.3)",
         ValueRule::IssuerAndSerial => "an issuer or a serial number alone (RFC 5280 4.2.1.1)",
         ValueRule::Issuer(rule) => name_text(rule),
-        ValueRule::DistinctPolicies => "a policy comes twice, or there are more than 512 (RFC 5280 4.2.1.4)",
+        ValueRule::DistinctPolicies =>
+            "a policy comes twice, or there are more than 512 (RFC 5280 4.2.1.4)",
         ValueRule::AnyPolicyQualifiers => "another qualifier of anyPolicy (RFC 5280 4.2.1.4)",
         ValueRule::Qualifiers(rule) => qualifier_text(rule),
         ValueRule::UnmappedAnyPolicy => "anyPolicy is in a mapping (RFC 5280 4.2.1.5)",
