@@ -49,7 +49,7 @@ struct Found {
 
 /// What a folder has, and the folders inside it.
 #[derive(Drop)]
-struct Tree {
+struct FolderContents {
     files: Vec<Found>,
     /// The names that aren't looked at yet. The last one is the next.
     names: Vec<String>,
@@ -110,7 +110,7 @@ impl FileList {
         folder: &str,
         err: &mut X,
     ) -> io::Result<()> {
-        let Tree {
+        let FolderContents {
             mut files,
             is_whole,
             ..
@@ -141,8 +141,8 @@ fn tree_of<R: Files + AllocGlobal + Clone + Drop, X: Write>(
     rt: &R,
     folder: &str,
     err: &mut X,
-) -> io::Result<Tree> {
-    let mut tree = Tree {
+) -> io::Result<FolderContents> {
+    let mut tree = FolderContents {
         files: Vec::new(rt.alloc()),
         names: Vec::new(rt.alloc()),
         is_whole: true,
@@ -157,7 +157,7 @@ fn tree_of<R: Files + AllocGlobal + Clone + Drop, X: Write>(
     Ok(tree)
 }
 
-impl Tree {
+impl FolderContents {
     /// Takes the names in a folder, to look at the first of them next.
     fn enter<R: Files + AllocGlobal + Clone + Drop, X: Write>(
         &mut self,
