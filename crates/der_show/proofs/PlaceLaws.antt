@@ -24,7 +24,7 @@ use Rattle.der_walk.specs.Walked.{HasOctets, HasVisited, index_in, visited_of}
 use Rattle.der_show.specs.declared.place.Place.{Place}
 use Rattle.der_show.specs.Around.{around_past, kept}
 use Rattle.der_show.specs.Places.{IsExtensionOf, IsIdentifier, IsInExtension, IsNamePath, StandsAt, further, inside, named, outside}
-use Rattle.der_show.proofs.LeafLaws.{last_same, no_last}
+use Rattle.der_fields.proofs.OpenLaws.{last_same, no_last}
 
 -- the last of these elements is in this extension alone, or in none
 abbrev pub AroundBy : Root → List ℕ → List Visited → Option (ℕ × List ℕ) → Type 0

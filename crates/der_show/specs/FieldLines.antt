@@ -1,5 +1,5 @@
 -- What the private functions that write the lines of a type find.
-use Rattle.std.specs.Prelude.{◌≡◌, ◌↔◌, ℕ, Bool, true, false, IsTrue, ◌&&◌, Option, Some}
+use Rattle.std.specs.Prelude.{◌≡◌, ◌↔◌, ℕ, Bool, true, false, IsTrue, ◌&&◌, Option, None, Some}
 use Rattle.std.specs.Prelude.{List, ◌++◌, length}
 use Rattle.der_fields.specs.Secrets.{is_inside, secret_text}
 use Rattle.der_print.specs.Lines.{IsFieldLine}
