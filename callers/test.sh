@@ -183,7 +183,8 @@ run_c() {
     says "writer" "$room/writer" "$room"
     says "rows of the library's tests" "$room/tables" ../tests/rows*/data/*/*.rows
     says "rows about certificates" "$room/certificate_rows" ../tests/rows/data/certificates/*.rows \
-        ../tests/rows/data/messages/messages.rows
+        ../tests/rows/data/messages/messages.rows ../tests/rows/data/rules/names.rows \
+        ../tests/rows/data/rules/[!n]*.rows
     shown=
 
     prints "first" 0 "$(printf 'type 16, octets 2 to 8\ntype 2, octets 4 to 5\ntype 1, octets 7 to 8')" "$room/first"
@@ -196,6 +197,9 @@ run_c() {
 3 elements in 14 octets, 1 octets follow' "$room/tree" ber "$room/smith"
     prints "tree by DER" 1 "" "$room/tree" der "$room/smith"
     says "tree tells why" grep -q "^at 0: DER constraint failed: indefinite length$" "$room/errors"
+    octets "0c 06 61 0a e2 80 ae 62" > "$room/turned"
+    prints "tree of a text that turns" 0 '     0 [universal 12] "a\x0a\xe2\x80\xaeb"
+1 elements in 8 octets, 0 octets follow' "$room/tree" der "$room/turned"
 
     octets "$(printf '30 0a 16 05 53 6d 69 74 68 01 01 ff%.0s' $(seq 2000))" > "$room/many"
     prints "count" 0 "6000 objects, 2000 of them outermost, in 24000 octets" "$room/count" der "$room/many"
@@ -216,17 +220,17 @@ version 1, community public: get-next 43 1.3.6.1.2.1.1.3.0" "$room/snmp"
     { head -c 3 "$room/messages"; sleep 0.2; tail -c +4 "$room/messages"; } | "$room/snmp" > "$room/out"
     says "SNMP that comes in pieces" grep -q "get-next 43" "$room/out"
     says "SNMP that is answered" run_reply "$room/snmp_reply"
-    # The version is [2] and no INTEGER; a community with a newline and an escape
-    octets "30 26 82 01 00 04 06 70 75 62 6c 69 63 a0 19 02 01 2a 02 01 00 02 01 00 30 0e 30 0c 06 08 2b 06 01 02 01 01
+    # The version is [2] and no INTEGER; a community with a newline, an escape, a backslash and U+202E
+    octets "30 26 82 01 01 04 06 70 75 62 6c 69 63 a0 19 02 01 2a 02 01 00 02 01 00 30 0e 30 0c 06 08 2b 06 01 02 01 01
         01 00 05 00" > "$room/in"
     for name in snmp snmp_reply; do
         prints "SNMP with a version of another class: $name.c" 1 "" "$room/$name"
         says "$name.c tells the tag" grep -q ": at 2: unexpected class, found \[2\]$" "$room/errors"
     done
-    octets "30 23 02 01 00 04 03 0a 1b 5c a0 19 02 01 2a 02 01 00 02 01 00 30 0e 30 0c 06 08 2b 06 01 02 01 01 01 00 05
-        00" > "$room/in"
-    prints "SNMP with a community that isn't a text" 0 \
-        'version 0, community \x0a\x1b\x5c: get 42 1.3.6.1.2.1.1.1.0' "$room/snmp"
+    octets "30 26 02 01 00 04 06 0a 1b 5c e2 80 ae a0 19 02 01 2a 02 01 00 02 01 00 30 0e 30 0c 06 08 2b 06 01 02 01 01
+        01 00 05 00" > "$room/in"
+    prints "SNMP with a community that turns the text" 0 \
+        'version 0, community \x0a\x1b\x5c\xe2\x80\xae: get 42 1.3.6.1.2.1.1.1.0' "$room/snmp"
     if has openssl "elements and requests that openssl reads"; then
         says "elements as openssl reads them" run_sized
         shown=yes says "random trees as openssl reads them" run_trees
@@ -276,6 +280,23 @@ run_readme() (
     [ -n "$command" ] && cd "$copy" && CARGO_NET_OFFLINE=true CARGO_TARGET_DIR=$room/target_of_readme \
         env -u DUMAREWHI_LIB sh -ec "$command"
 )
+
+# block LANGUAGE NUMBER: the lines of README's block with this number among those in this language.
+block() {
+    awk -v begin="\`\`\`$1" -v wanted="$2" '$0 == begin { on = ++seen == wanted; next } /^```$/ { on = 0 } on' ../README.md
+}
+
+# The lines of README for C, in a program that reads a certificate.
+run_readme_block() {
+    {
+        printf '#include "dumarewhi.h"\n#include <stdio.h>\nint main(void) {\nstatic uint8_t octets[65536];\n'
+        printf 'size_t length = fread(octets, 1, sizeof octets, stdin);\n'
+        block c 1
+        echo 'return 0; }'
+    } > "$room/readme.c"
+    cc -std=c99 -Wall -Wextra -pedantic -Werror -Ic/include "$room/readme.c" "$archive" -o "$room/readme" || return
+    [ "$("$room/readme" < ../crates/der/data/certificate.der)" = "valid until 2027" ]
+}
 
 # What openssl says of a certificate in DER, as the examples in C and Rust print it.
 openssl_certificate() {
@@ -501,8 +522,7 @@ int LLVMFuzzerTestOneInput(const uint8_t *input, size_t length) { return input =
     else
         echo "left out: targets for libFuzzer (there is no clang with -fsanitize=fuzzer)"
     fi
-    awk '/^```c$/ {on = 1; next} /^```$/ {on = 0} on' ../README.md > "$room/readme.c"
-    says "README has the lines of first.c" diff "$room/readme.c" c/examples/first.c
+    says "the lines of README for C" run_readme_block
     has openssl "the command of README for C" \
         && says "the command of README for C" run_readme_example cc
 fi
@@ -518,12 +538,10 @@ version_of_header() { sed -n 's/^#define DM_VERSION_[A-Z]* \([0-9]*\)$/\1/p' c/i
 version_of_crate() { sed -n 's/^version = "\(.*\)"$/\1/p' rust/Cargo.toml; }
 says "the header has the version of the crate" [ "$(version_of_header)" = "$(version_of_crate)" ]
 
-# prints the first block of Rust in a page
-rust_lines() { awk '/^```rust$/ && !seen {on = 1; seen = 1; next} /^```$/ {on = 0} on' "$1"; }
+has_lines() { [ -n "$1" ] && [[ $(< "$2") == *"$1"* ]]; }
+says "the lines of README for Rattle are those of der_uses" has_lines "$(block rust 1)" ../crates/der_uses/src/shown.rt
 
 if [ -d rust ]; then
-    # The tests of documentation compile and run the lines of rust/README.md.
-    says "README has the lines of rust/README.md" diff <(rust_lines ../README.md) <(rust_lines rust/README.md)
     if has cargo "all of Rust"; then
         shown=yes
         run_cargo() { DUMAREWHI_LIB=$(dirname "$archive") CARGO_TARGET_DIR=$room/target cargo "$@" 2>&1; }
@@ -549,32 +567,31 @@ if [ -d rust ]; then
         fi
         [ -f "$room/hostile.der" ] && prints_certificates "x509.rs" "$examples/x509"
         if [ -f "$room/seeds/certificate.der" ]; then
-            # The first octet of an input says which readers are asked: each seed is there for each of them.
             run_rust_target() {
-                local seed first
-                mkdir "$room/corpus_rust" || return
-                for seed in "$room"/seeds/*; do
-                    for first in 00 04 05 08 09 0a 0b 0c 0f 84 c1; do
-                        { octets "$first"; cat "$seed"; } > "$room/corpus_rust/${seed##*/}.$first"
-                    done
-                done
-                DUMAREWHI_LIB=$(dirname "$archive") CARGO_TARGET_DIR=$room/target_of_fuzz rust/fuzz/run \
-                    "$room/corpus_rust" -seed=1 -runs=200000 -reload=0 -max_len=4096 "-artifact_prefix=$room/rust."
+                rust/fuzz/seeds "$room/corpus_rust" && DUMAREWHI_LIB=$(dirname "$archive") \
+                    CARGO_TARGET_DIR=$room/target_of_fuzz rust/fuzz/run "$room/corpus_rust" -seed=1 -runs=200000 \
+                    -reload=0 "-artifact_prefix=$room/rust."
             }
             says "the target of Rust for libFuzzer" run_rust_target
         else
             echo "left out: the target of Rust for libFuzzer (there is no clang with -fsanitize=fuzzer)"
         fi
         has openssl "the command of README for Rust" && says "the command of README for Rust" run_readme_example cargo
-        # A project of its own, with the command that rust/README.md gives.
+        # A project of its own, with the command that rust/README.md gives, and the lines of README.
         if cargo add --help > /dev/null 2>&1; then
             add=$(sed -n 's|^\(cargo add .*\)$|\1|p' rust/README.md)
             run_project() (
                 (cd "$room" && cargo new --quiet --vcs none project) || return
-                rust_lines ../README.md > "$room/project/src/main.rs"
-                [ -s "$room/project/src/main.rs" ] && [ -n "$add" ] || return
+                {
+                    echo 'fn main() -> Result<(), Box<dyn std::error::Error>> {'
+                    echo 'let octets = std::fs::read(std::env::args().nth(1).ok_or("no file")?)?;'
+                    block rust 2
+                    echo 'Ok(()) }'
+                } > "$room/project/src/main.rs"
+                [ -n "$add" ] || return
                 cd "$room/project" && CARGO_NET_OFFLINE=true sh -ec "${add//DUMAREWHI/$root}" || return
-                run_cargo run --offline
+                run_cargo run --offline --quiet -- "$root/crates/der/data/certificate.der" \
+                    | grep -q '^CN=.* until 2027-02-22T23:15:41Z$'
             )
             says "a project of its own" run_project
         else

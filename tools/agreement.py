@@ -1,13 +1,12 @@
 #!/usr/bin/env python3
-"""Compares what programs say of damaged inputs with what `der check` says: whether they are elements and nothing else,
-by BER and by DER.
+"""Compares what programs say of damaged inputs with `der check`: whether they are elements by BER and by DER.
 
     tools/agreement.py COUNT PROGRAM..
 
-The inputs are the same at each run: those of all rows of the tests and the files of `der`, nested elements about as
-deep as the limit, and copies of them with octets changed, removed, added or cut off. A program is given a file of them,
-each after its length in four octets, and prints a digit for each, as callers/c/agreement.c does. DER=PROGRAM is the
-program `der`, or crates/der/out/der, which `rt ci` leaves. The last line has how many are of each kind.
+The inputs are the rows of the tests, the files of `der`, deeply nested elements, and damaged copies of them. They are
+the same in each run. A program gets a file of inputs, each after its length in four octets, and prints a digit for
+each, as callers/c/agreement.c does. DER=PROGRAM sets the program `der` (default: crates/der/out/der of `rt ci`). The
+last line counts the inputs of each kind.
 """
 import collections
 import os

@@ -8,8 +8,8 @@ HEADINGS = ("Commands", "Arguments", "Options")
 # A line of a list: the term, and what is said of it. Further lines of that have no term.
 LINE = re.compile(r" {2,}(\S.*?) {2,}(\S.*)")
 FURTHER = re.compile(r" {8,}(\S.*)")
-# The values of an option, as `Read as der, pem or hex, not ..` names them
-VALUES = re.compile(r"^Read as ((?:\w+, )*\w+) or (\w+)\b")
+# The values of an option, as `Form: der, pem or hex (default: ..)` names them
+VALUES = re.compile(r"^Form: ((?:\w+, )*\w+) or (\w+)\b")
 
 
 @dataclasses.dataclass

@@ -12,7 +12,7 @@ OK = re.compile(r"rt: ok; .*?(?:must-fail edits: (\d+) refused.*)?")
 EDIT = re.compile(r"rt: .*: refused, as it must be.*")
 # What .ci/run prints of itself: the commit first, and last how many passed of each part
 COMMIT = re.compile(r"commit ([0-9a-f]{40})")
-PART = re.compile(r"of ([a-z -]+): (\d+)")
+PART = re.compile(r"of ([A-Za-z, -]+): (\d+)")
 # What `tools/wrong-bodies --anew` prints before its last line
 EDITS = re.compile(r"commit ([0-9a-f]{40}): (\d+) edits refused anew, of which 0 are recorded; 0 as recorded; 0 neither .*")
 

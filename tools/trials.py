@@ -19,7 +19,10 @@ def names_in(folder):
 
 def folder_of(name):
     """The folder of a crate, of tests or of the others."""
-    return next(it / name for it in (TESTS, CRATES) if (it / name / "src").is_dir())
+    for it in (TESTS, CRATES):
+        if (it / name / "src").is_dir():
+            return it / name
+    sys.exit(f"no crate is named {name}")
 
 
 def uses():
@@ -33,8 +36,15 @@ def copied_name(src, at):
     return at.with_suffix(".rt") if src.suffix == ".rs" else at
 
 
+def own_tests(crate):
+    """The files of a program's module `tests`, which are in a folder of tests with the name of the program."""
+    folder = TESTS / crate.name
+    return sorted(folder.rglob("*.rs")) if (folder / "tests.rs").is_file() else []
+
+
 def copy_crate(crate, to):
-    """Copies what `rt try` reads of a crate, and its data beside it, where the program looks for it."""
+    """Copies what `rt try` reads of a crate, and its data beside it, where the program looks for it. A program has its
+    module `tests` in the copy alone, since the gate would prove it."""
     for part in ("src", "specs", "proofs"):
         for src in sorted((crate / part).rglob("*")):
             at = copied_name(src, to / src.relative_to(crate))
@@ -43,6 +53,14 @@ def copy_crate(crate, to):
                 shutil.copyfile(src, at)
     if (crate / "data").is_dir():
         shutil.copytree(crate / "data", to, dirs_exist_ok=True)
+    own = own_tests(crate)
+    for src in own:
+        at = copied_name(src, to / "src" / src.relative_to(TESTS / crate.name))
+        at.parent.mkdir(parents=True, exist_ok=True)
+        shutil.copyfile(src, at)
+    if own:
+        with open(to / "src/main.rt", "a") as root:
+            root.write("\n#[cfg(test)]\nmod tests;\n")
 
 
 def copy_repository(room):

@@ -3,7 +3,10 @@
  *
  * A row has octets, a result and a remark, with bars between them. The calls that return it are in brackets above it:
  * strict_certificate, certification_request, those of a value of an extension, reasons, and `certificate of` octets (or
- * of those of a request, a list or a key), whose rows are changes of them. Rows of other calls are passed over. */
+ * of those of a request, a list or a key), whose rows are changes of them. Rows of other calls are passed over.
+ *
+ * The rows of `text` and `list_text` have a rule each, in the order of their numbers. They stand before those of
+ * `must`, `should`, `list_must` and `list_should`, which name the rules that are broken. */
 #include "dumarewhi.h"
 
 #include <stdio.h>
@@ -516,6 +519,50 @@ static void read_list(const uint8_t *input, size_t length) {
     add("read");
 }
 
+/* The names of the rules, in the order of their numbers: of certificates, and of CRLs. */
+static char rules[2][DM_MAX_BROKEN_RULES][80];
+static uint32_t rule_count[2];
+static const uint32_t first_rules[2] = {1, DM_FIRST_CRL_RULE};
+
+static void add_rule(uint32_t rule) {
+    uint8_t text[DM_TEXT_OCTETS];
+    dm_octets whole = {text, dm_rule_text(rule, text, sizeof text)};
+    add_text("", whole);
+}
+
+/* The names of the broken rules of a kind, or their texts. */
+static void add_broken(const uint8_t *input, size_t length, int of_list, uint32_t kind, int as_text) {
+    uint32_t (*call)(const uint8_t *, size_t, uint32_t *, size_t, size_t *, dm_fault *) =
+        of_list ? dm_broken_crl_rules : dm_broken_rules;
+    uint32_t broken[DM_MAX_BROKEN_RULES], first[2] = {0, 7};
+    size_t count, again;
+    dm_fault fault;
+    if (call(input, length, broken, DM_MAX_BROKEN_RULES, &count, &fault) != DM_OK) {
+        add_fault(&fault);
+        return;
+    }
+    if (call(input, length, first, 1, &again, &fault) != DM_OK || again != count || first[1] != 7
+        || first[0] != (count == 0 ? 0 : broken[0])) {
+        add("other rules with less room");
+    }
+    for (size_t i = 0; i < count; i++) {
+        if (dm_rule_kind(broken[i]) != kind) continue;
+        if (found[0] != 0) add(", ");
+        if (as_text) {
+            add_rule(broken[i]);
+        } else {
+            add(rules[of_list][broken[i] - first_rules[of_list]]);
+        }
+    }
+}
+
+static void read_must(const uint8_t *input, size_t length) { add_broken(input, length, 0, DM_RULE_MUST, 0); }
+static void read_should(const uint8_t *input, size_t length) { add_broken(input, length, 0, DM_RULE_SHOULD, 0); }
+static void read_texts(const uint8_t *input, size_t length) { add_broken(input, length, 0, DM_RULE_MUST, 1); }
+static void read_list_must(const uint8_t *input, size_t length) { add_broken(input, length, 1, DM_RULE_MUST, 0); }
+static void read_list_should(const uint8_t *input, size_t length) { add_broken(input, length, 1, DM_RULE_SHOULD, 0); }
+static void read_list_texts(const uint8_t *input, size_t length) { add_broken(input, length, 1, DM_RULE_MUST, 1); }
+
 typedef void reader(const uint8_t *, size_t);
 
 static const struct {
@@ -550,6 +597,12 @@ static const struct {
     {"has_unknown_critical", read_unknown},
     {"reason_code", add_reason},
     {"reasons", read_reasons},
+    {"must", read_must},
+    {"should", read_should},
+    {"texts", read_texts},
+    {"list_must", read_list_must},
+    {"list_should", read_list_should},
+    {"list_texts", read_list_texts},
 };
 
 /* Those whose rows are changes of the octets above. */
@@ -606,8 +659,37 @@ static void try_change(reader *read, const char *base, const char *change, const
     free(block);
 }
 
-static void try_row(const char *input, const char *wanted) {
+/* The text of the next rule. */
+static void try_rule(int of_list, const char *name, const char *wanted) {
+    uint32_t number = first_rules[of_list] + rule_count[of_list];
+    /* (the last rows are rules that are in neither list) */
+    if (dm_rule_kind(number) == DM_RULE_NONE) return;
+    strncat(rules[of_list][rule_count[of_list]++], name, sizeof rules[0][0] - 1);
+    found[0] = 0;
+    add_rule(number);
+    compare(name, wanted);
+}
+
+/* After the last rule no number has one. */
+static void try_numbers(void) {
+    uint8_t text[DM_TEXT_OCTETS];
+    for (int of_list = 0; of_list < 2; of_list++) {
+        uint32_t end = first_rules[of_list] + rule_count[of_list];
+        if (dm_rule_kind(end) == DM_RULE_NONE && dm_rule_text(end, text, sizeof text) == 0
+            && dm_rule_kind(end - 1) == DM_RULE_SHOULD && dm_rule_kind(first_rules[of_list]) == DM_RULE_MUST
+            && dm_rule_kind(first_rules[of_list] - 1) == DM_RULE_NONE && rule_count[of_list] < DM_MAX_BROKEN_RULES)
+            continue;
+        failed++;
+        printf("certificate_rows: other numbers of rules\n");
+    }
+}
+
+static void try_row(char *input, const char *wanted) {
     static char copy[sizeof calls];
+    if (strcmp(calls, "text") == 0 || strcmp(calls, "list_text") == 0) {
+        try_rule(calls[0] == 'l', trimmed(input), wanted);
+        return;
+    }
     const char *base = strstr(calls, " of ");
     if (base != NULL) {
         for (size_t i = 0; i < sizeof readers_of_changes / sizeof *readers_of_changes; i++) {
@@ -655,6 +737,7 @@ int main(int count, char **files) {
             printf("certificate_rows: %s isn't read\n", files[i]);
         }
     }
+    if (rule_count[0] > 0) try_numbers();
     printf("certificate_rows: %zu rows in %d files, %zu failed\n", compared, count - 1, failed);
     return compared == 0 || failed != 0;
 }

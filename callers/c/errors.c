@@ -6,8 +6,8 @@
 
 static int passed, failed;
 
-/* The texts are those of the errors of der_base, without the values that an error keeps, of der_walk, der_contents and
- * der_input. */
+/* The texts are those of the errors of der_base, without the values that an error keeps, of der_elements, der_contents
+ * and der_input. */
 static const struct {
     enum dm_error error;
     const char *text;
@@ -71,7 +71,7 @@ static const struct {
     {DM_ERROR_REAL_SPECIAL, "a special value of a REAL isn't known (X.690 8.5.9)"},
     {DM_ERROR_REAL_DECIMAL, "a decimal REAL isn't in its form of ISO 6093 (X.690 8.5.8)"},
     {DM_ERROR_REAL_DECIMAL_NOT_STRICT, "a decimal REAL has needless characters (X.690 11.3.2)"},
-    {DM_ERROR_NOT_UTF8, "a UTF8String isn't UTF-8 (X.690 8.23.10)"},
+    {DM_ERROR_NOT_UTF8, "a text isn't UTF-8 (X.690 8.21, 8.22, 8.23.10)"},
     {DM_ERROR_CHARACTER_OUTSIDE, "an octet is outside of the character set (X.690 8.23)"},
     {DM_ERROR_UNIVERSAL_STRING_LENGTH, "a UniversalString isn't groups of four octets (X.690 8.23.7)"},
     {DM_ERROR_BMP_STRING_LENGTH, "a BMPString isn't pairs of octets (X.690 8.23.9)"},
@@ -156,6 +156,101 @@ static void expect_octets(const uint8_t *found, size_t size, const char *wanted)
     }
 }
 
+/* The field that the text of a fault begins with, by the documents' names; RFC 5280 4.1 and 5.1, RFC 2986 4, RFC 5958 2
+ * and 3, RFC 8017 A.1, RFC 5915 3. */
+static const struct {
+    enum dm_field field;
+    const char *text;
+} fields[] = {
+    {DM_FIELD_CERTIFICATE, "Certificate"},
+    {DM_FIELD_TBS_CERTIFICATE, "tbsCertificate"},
+    {DM_FIELD_VERSION, "tbsCertificate.version"},
+    {DM_FIELD_SERIAL_NUMBER, "tbsCertificate.serialNumber"},
+    {DM_FIELD_SIGNATURE, "tbsCertificate.signature"},
+    {DM_FIELD_ISSUER, "tbsCertificate.issuer"},
+    {DM_FIELD_VALIDITY, "tbsCertificate.validity"},
+    {DM_FIELD_SUBJECT, "tbsCertificate.subject"},
+    {DM_FIELD_SUBJECT_PUBLIC_KEY_INFO, "tbsCertificate.subjectPublicKeyInfo"},
+    {DM_FIELD_ISSUER_UNIQUE_ID, "tbsCertificate.issuerUniqueID"},
+    {DM_FIELD_SUBJECT_UNIQUE_ID, "tbsCertificate.subjectUniqueID"},
+    {DM_FIELD_EXTENSIONS, "tbsCertificate.extensions"},
+    {DM_FIELD_SIGNATURE_ALGORITHM, "signatureAlgorithm"},
+    {DM_FIELD_SIGNATURE_VALUE, "signatureValue"},
+    {DM_FIELD_LIST, "CertificateList"},
+    {DM_FIELD_TBS_LIST, "tbsCertList"},
+    {DM_FIELD_LIST_VERSION, "tbsCertList.version"},
+    {DM_FIELD_LIST_SIGNATURE, "tbsCertList.signature"},
+    {DM_FIELD_LIST_ISSUER, "tbsCertList.issuer"},
+    {DM_FIELD_THIS_UPDATE, "tbsCertList.thisUpdate"},
+    {DM_FIELD_NEXT_UPDATE, "tbsCertList.nextUpdate"},
+    {DM_FIELD_REVOKED_CERTIFICATES, "tbsCertList.revokedCertificates"},
+    {DM_FIELD_LIST_EXTENSIONS, "tbsCertList.crlExtensions"},
+    {DM_FIELD_LIST_SIGNATURE_ALGORITHM, "signatureAlgorithm"},
+    {DM_FIELD_LIST_SIGNATURE_VALUE, "signatureValue"},
+    {DM_FIELD_REQUEST, "CertificationRequest"},
+    {DM_FIELD_REQUEST_INFO, "certificationRequestInfo"},
+    {DM_FIELD_REQUEST_VERSION, "certificationRequestInfo.version"},
+    {DM_FIELD_REQUEST_SUBJECT, "certificationRequestInfo.subject"},
+    {DM_FIELD_REQUEST_KEY, "certificationRequestInfo.subjectPKInfo"},
+    {DM_FIELD_REQUEST_ATTRIBUTES, "certificationRequestInfo.attributes"},
+    {DM_FIELD_REQUEST_SIGNATURE_ALGORITHM, "signatureAlgorithm"},
+    {DM_FIELD_REQUEST_SIGNATURE, "signature"},
+    {DM_FIELD_KEY, "PrivateKeyInfo"},
+    {DM_FIELD_KEY_VERSION, "version"},
+    {DM_FIELD_KEY_ALGORITHM, "privateKeyAlgorithm"},
+    {DM_FIELD_KEY_OCTETS, "privateKey"},
+    {DM_FIELD_KEY_ATTRIBUTES, "attributes"},
+    {DM_FIELD_KEY_PUBLIC_KEY, "publicKey"},
+    {DM_FIELD_RSA_KEY, "RSAPrivateKey"},
+    {DM_FIELD_RSA_VERSION, "version"},
+    {DM_FIELD_RSA_MODULUS, "modulus"},
+    {DM_FIELD_RSA_PUBLIC_EXPONENT, "publicExponent"},
+    {DM_FIELD_RSA_PRIVATE_EXPONENT, "privateExponent"},
+    {DM_FIELD_RSA_PRIME1, "prime1"},
+    {DM_FIELD_RSA_PRIME2, "prime2"},
+    {DM_FIELD_RSA_EXPONENT1, "exponent1"},
+    {DM_FIELD_RSA_EXPONENT2, "exponent2"},
+    {DM_FIELD_RSA_COEFFICIENT, "coefficient"},
+    {DM_FIELD_RSA_OTHER_PRIMES, "otherPrimeInfos"},
+    {DM_FIELD_EC_KEY, "ECPrivateKey"},
+    {DM_FIELD_EC_VERSION, "version"},
+    {DM_FIELD_EC_OCTETS, "privateKey"},
+    {DM_FIELD_EC_PARAMETERS, "parameters"},
+    {DM_FIELD_EC_PUBLIC_KEY, "publicKey"},
+    {DM_FIELD_ENCRYPTED_KEY, "EncryptedPrivateKeyInfo"},
+    {DM_FIELD_ENCRYPTED_ALGORITHM, "encryptionAlgorithm"},
+    {DM_FIELD_ENCRYPTED_DATA, "encryptedData"},
+    {DM_FIELD_PUBLIC_KEY, "SubjectPublicKeyInfo"},
+    {DM_FIELD_PUBLIC_ALGORITHM, "algorithm"},
+    {DM_FIELD_PUBLIC_BITS, "subjectPublicKey"},
+    {DM_FIELD_PUBLIC_RSA_KEY, "RSAPublicKey"},
+    {DM_FIELD_PUBLIC_RSA_MODULUS, "modulus"},
+    {DM_FIELD_PUBLIC_RSA_EXPONENT, "publicExponent"},
+};
+
+static const char *name_of_field(uint32_t field) {
+    for (size_t i = 0; i < sizeof fields / sizeof *fields; i++) {
+        if ((uint32_t)fields[i].field == field) return fields[i].text;
+    }
+    return "";
+}
+
+/* A number without a field has no name. */
+static void expect_fields(void) {
+    for (uint32_t field = 0; field < 300; field++) {
+        char wanted[DM_TEXT_OCTETS];
+        uint8_t text[DM_TEXT_OCTETS];
+        const char *name = name_of_field(field);
+        dm_fault fault = {0};
+        fault.offset = 9;
+        fault.status = DM_ERROR;
+        fault.error = DM_ERROR_WRONG_VALUE;
+        fault.field = field;
+        snprintf(wanted, sizeof wanted, "%s%sat 9: wrong value", name, *name == 0 ? "" : " ");
+        expect_octets(text, dm_fault_text(&fault, text, sizeof text), wanted);
+    }
+}
+
 /* The tag that an element has in place of the expected one. The classes have tags with the same numbers. */
 static void expect_found(void) {
     static const struct {
@@ -203,6 +298,7 @@ static void expect_tags(void) {
 /* Each name has its text, and each number with a text has a name. */
 int main(void) {
     expect_named();
+    expect_fields();
     expect_found();
     expect_tags();
     for (size_t i = 0; i < sizeof names / sizeof *names; i++) expect_text(names[i].error, names[i].text);

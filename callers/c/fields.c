@@ -165,10 +165,87 @@ static void test_bits(void) {
            "those in a list");
 }
 
+/* Each call for a number reads the element, or refuses it and leaves the value and the cursor. */
+static void test_number(const uint8_t *octets, size_t length, uint32_t rules, uint32_t error, int64_t value) {
+    for (int call = 0; call < 4; call++) {
+        uint8_t element[8];
+        memcpy(element, octets, length);
+        if (call == 3) element[0] = DM_ENUMERATED;
+        for (int tagged = 0; tagged < 2; tagged++) {
+            dm_cursor cursor = dm_cursor_over(element, length, rules);
+            uint64_t natural = 99;
+            int64_t number = 99;
+            dm_octets content = {NULL, 99};
+            dm_fault f;
+            if (tagged) {
+                element[0] = 0x83;
+                dm_expect_implicit(&cursor, DM_CONTEXT_SPECIFIC, 3);
+            }
+            uint32_t implicit = cursor.implicit;
+            uint32_t status = call == 0   ? dm_next_integer(&cursor, &content, &f)
+                              : call == 1 ? dm_next_u64(&cursor, &natural, &f)
+                              : call == 2 ? dm_next_i64(&cursor, &number, &f)
+                                          : dm_next_enumerated(&cursor, &natural, &f);
+            int is_natural = call == 1 || call == 3;
+            uint32_t expected = error == 0 && is_natural && value < 0 ? DM_ERROR_INTEGER_NEGATIVE : error;
+            if (expected == 0) {
+                expect(status == DM_OK && is_left(&cursor, length, 0) && cursor.implicit == 0
+                           && (call != 0 || is_at(content, element, 2, length - 2))
+                           && (!is_natural || natural == (uint64_t)value) && (call != 2 || number == value),
+                       "a number in its fewest octets");
+            } else {
+                expect(status == DM_ERROR && has_fault(&f, expected, 0) && f.is_in_list == 0 && content.length == 99
+                           && natural == 99 && number == 99 && is_left(&cursor, 0, length)
+                           && cursor.implicit == implicit,
+                       "a number in other octets");
+            }
+        }
+    }
+}
+
+/* An INTEGER or ENUMERATED has octets, and the fewest for its number (8.3.1, 8.3.2), by either rules. */
+static void test_numbers(void) {
+    static const struct {
+        uint8_t octets[4];
+        size_t length;
+        uint32_t error;
+        int64_t value;
+    } rows[] = {
+        {{0x02, 0x01, 0x00}, 3, 0, 0},
+        {{0x02, 0x01, 0x80}, 3, 0, -128},
+        {{0x02, 0x02, 0x00, 0x80}, 4, 0, 128},
+        {{0x02, 0x02, 0xff, 0x7f}, 4, 0, -129},
+        {{0x02, 0x00}, 2, DM_ERROR_INTEGER_EMPTY, 0},
+        {{0x02, 0x02, 0x00, 0x01}, 4, DM_ERROR_INTEGER_LEADING_ZEROES, 0},
+        {{0x02, 0x02, 0x00, 0x7f}, 4, DM_ERROR_INTEGER_LEADING_ZEROES, 0},
+        {{0x02, 0x02, 0xff, 0x80}, 4, DM_ERROR_INTEGER_LEADING_FF, 0},
+        {{0x02, 0x02, 0xff, 0xff}, 4, DM_ERROR_INTEGER_LEADING_FF, 0}};
+    for (size_t i = 0; i < sizeof rows / sizeof *rows; i++) {
+        test_number(rows[i].octets, rows[i].length, DM_BER, rows[i].error, rows[i].value);
+        test_number(rows[i].octets, rows[i].length, DM_DER, rows[i].error, rows[i].value);
+    }
+    static const uint8_t inside[] = {0x30, 0x80, 0x05, 0x00, 0x0a, 0x81, 0x02, 0x00, 0x01, 0x00, 0x00};
+    static const uint8_t large[] = {0x02, 0x0a, 0x00, 0x00, 0xff, 0xff, 0xff, 0xff, 0xff, 0xff, 0xff, 0xff};
+    dm_cursor whole = dm_cursor_over(inside, sizeof inside, DM_BER), fields;
+    uint64_t number;
+    dm_fault f;
+    expect(dm_next_sequence(&whole, &fields, &f) == DM_OK && dm_next_null(&fields, &f) == DM_OK
+               && dm_next_enumerated(&fields, &number, &f) == DM_ERROR
+               && has_fault(&f, DM_ERROR_INTEGER_LEADING_ZEROES, 4) && f.is_in_list == 1 && f.list_end == 9,
+           "one in a list");
+    whole = dm_cursor_over(large, sizeof large, DM_BER);
+    expect(dm_next_u64(&whole, &number, &f) == DM_ERROR && has_fault(&f, DM_ERROR_INTEGER_LEADING_ZEROES, 0),
+           "one that is large too");
+    whole = dm_cursor_over(inside + 4, 5, DM_BER);
+    expect(dm_next_u64(&whole, &number, &f) == DM_ERROR && has_fault(&f, DM_ERROR_UNEXPECTED_TAG, 0),
+           "an ENUMERATED is no INTEGER");
+}
+
 int main(void) {
     test_types();
     test_rules();
     test_bits();
+    test_numbers();
     expect(sizeof(dm_cursor) == 40 && sizeof(dm_any) == 24, "a cursor has 40 octets, an element 24");
     printf("fields: %d passed, %d failed\n", passed, failed);
     return failed != 0;

@@ -517,6 +517,22 @@ static void test_text_of_blocks(dm_octets text) {
     free(octets);
 }
 
+/* The rules that a certificate breaks, one at least if `is_broken`. Other inputs have the fault of the reader. */
+static void test_rules(const uint8_t *input, size_t length, const dm_fault *fault, int is_broken) {
+    uint32_t broken[DM_MAX_BROKEN_RULES];
+    size_t count = 1000;
+    dm_fault own;
+    uint32_t status = dm_broken_rules(input, length, broken, DM_MAX_BROKEN_RULES, &count, &own);
+    expect(status == fault->status && memcmp(&own, fault, sizeof own) == 0, "the fault of rules");
+    if (status != DM_OK) {
+        expect(count == 1000, "rules of no certificate");
+        return;
+    }
+    expect(count <= DM_MAX_BROKEN_RULES && (count > 0 || !is_broken), "how many rules are broken");
+    for (size_t i = 0; i < count; i++)
+        expect(dm_rule_kind(broken[i]) != DM_RULE_NONE && (i == 0 || broken[i] > broken[i - 1]), "a broken rule");
+}
+
 static void test_input(const uint8_t *input, size_t length) {
     dm_certificate certificate, strict, before;
     dm_fault fault, strict_fault;
@@ -544,6 +560,7 @@ static void test_input(const uint8_t *input, size_t length) {
                "a rule");
         test_fault(&strict_fault, length, 1);
     }
+    test_rules(input, length, &fault, strictly != DM_OK);
     test_others(input, length);
     dm_octets part = {input, length};
     test_keys(part);

@@ -115,9 +115,9 @@ static const struct row rows[] = {
     /* 8.23: the VisibleString "Jones", and its constructed form */
     {"1a 05 4a 6f 6e 65 73", DER, 50, OK(1, 7)},
     {"3a 09 04 03 4a 6f 6e 04 02 65 73", BER, 50, OK(3, 11)},
-    /* 8.25, 11.7, 11.8: times; a second of 60 (X.680 47) */
+    /* 8.25, 11.7, 11.8: times; no second 60 (X.680 47.3) */
     {"17 0d 39 31 30 35 30 36 32 33 34 35 34 30 5a", DER, 50, OK(1, 15)},
-    {"17 0d 31 36 31 32 33 31 32 33 35 39 36 30 5a", DER, 50, OK(1, 15)},
+    {"17 0d 31 36 31 32 33 31 32 33 35 39 36 30 5a", DER, 50, FAULT(90, 0)},
     {"17 0b 39 31 30 35 30 36 32 33 34 35 5a", DER, 50, FAULT(92, 0)},
     {"17 0b 39 31 30 35 30 36 32 33 34 35 5a", BER, 50, OK(1, 13)},
     {"17 11 39 31 30 35 30 36 31 36 34 35 34 30 2d 30 37 30 30", DER, 50, FAULT(91, 0)},
@@ -275,6 +275,7 @@ static const struct {
     {"a0 13 17 11 39 31 30 35 30 36 31 36 34 35 34 30 2d 30 37 30 30", NULL, DM_ERROR, 91, 2},
     /* 8.6.4, 8.7.3: parts of another type, and unused bits inside */
     {"24 80 02 01 05 00 00", NULL, DM_ERROR, 50, 2},
+    {"24 03 84 01 61", NULL, DM_ERROR, 50, 2},
     {"23 08 03 02 01 80 03 02 00 80", NULL, DM_ERROR, 51, 6},
     /* 8.1.5: end-of-contents octets */
     {"30 02 00 00", NULL, DM_ERROR, 49, 2},
@@ -380,18 +381,18 @@ static void test_clamped_depth(void) {
     }
 }
 
-/* An element that is too deep, with a fault of its own: one of its header comes before the depth, and one of its tag or
- * content octets too, unless the depth is the greatest. */
+/* An element that is too deep, with a fault of its own: one of its header or length comes before the depth, and one of
+ * its content octets after it. */
 static void test_faults_that_are_too_deep(void) {
     static const struct {
         const char *octets;
-        uint32_t error, at_most;
+        uint32_t error;
     } rows[] = {
-        {"\x01\x81\x01", DM_ERROR_LENGTH_NOT_MINIMAL, DM_ERROR_LENGTH_NOT_MINIMAL},
-        {"\x02\x05\x00", DM_ERROR_OVERRUN, DM_ERROR_OVERRUN},
-        {"\x22\x01\x00", DM_ERROR_PRIMITIVE_EXPECTED, DM_ERROR_MAX_DEPTH},
-        {"\x01\x01\x7f", DM_ERROR_BOOLEAN_VALUE, DM_ERROR_MAX_DEPTH},
-        {"\x01\x01\xff", DM_ERROR_MAX_DEPTH, DM_ERROR_MAX_DEPTH}};
+        {"\x01\x81\x01", DM_ERROR_LENGTH_NOT_MINIMAL},
+        {"\x02\x05\x00", DM_ERROR_OVERRUN},
+        {"\x22\x01\x00", DM_ERROR_MAX_DEPTH},
+        {"\x01\x01\x7f", DM_ERROR_MAX_DEPTH},
+        {"\x01\x01\xff", DM_ERROR_MAX_DEPTH}};
     static const size_t depths[] = {1, 50, DM_MAX_DEPTH - 1, DM_MAX_DEPTH, DM_MAX_DEPTH + 1};
     uint8_t input[4 * DM_MAX_DEPTH + 3];
     dm_outcome outcome;
@@ -409,8 +410,7 @@ static void test_faults_that_are_too_deep(void) {
                 *--at = 0x30;
             }
             size_t size = (size_t)(input + length - at);
-            uint32_t error = depths[i] < DM_MAX_DEPTH ? rows[row].error : rows[row].at_most;
-            expect(dm_check_der(at, size, depths[i], &outcome) == DM_ERROR && outcome.error == error
+            expect(dm_check_der(at, size, depths[i], &outcome) == DM_ERROR && outcome.error == rows[row].error
                        && outcome.place == size - 3,
                    "dm_check_der", "a fault that is too deep");
         }
@@ -612,6 +612,50 @@ static void test_error_texts(void) {
     expect_text(66, "a number has no octets (X.690 8.3.1)");
 }
 
+/* Names, and their texts by RFC 4514. */
+static const struct {
+    const char *hex, *text;
+} names[] = {
+    /* 2.4: spaces and number signs */
+    {"31 0f 30 0d 06 03 55 04 03 0c 06 23 20 6c 65 61 64 31 0a 30 08 06 03 55 04 03 0c 01 23 31 0a 30 08 06 03 "
+     "55 04 03 0c 01 20 31 0e 30 0c 06 03 55 04 03 0c 05 20 20 78 20 20 31 09 30 07 06 03 55 04 03 0c 00",
+     "CN=,CN=\\  x \\ ,CN=\\ ,CN=\\#,CN=\\# lead"},
+    /* 2.4: other signs, and octets that are no printable ASCII */
+    {"31 17 30 15 06 03 55 04 03 0c 0e 61 3d 62 22 2b 2c 3b 3c 3e 5c 27 63 01 7f",
+     "CN=a=b\\\"\\+\\,\\;\\<\\>\\\\'c\\01\\7F"},
+    /* UTF8String, T61String, BMPString and UniversalString */
+    {"31 12 30 10 06 03 55 04 03 0c 09 e2 82 ac f0 9f 98 80 c3 a9 31 0d 30 0b 06 03 55 04 03 14 04 63 61 66 e9 "
+     "31 11 30 0f 06 03 55 04 03 1e 08 00 e9 20 ac 00 20 00 23 31 15 30 13 06 03 55 04 03 1c 0c 00 00 20 ac 00 "
+     "01 f6 00 00 00 00 20",
+     "CN=\\E2\\82\\AC\\F0\\9F\\98\\80\\ ,CN=\\C3\\A9\\E2\\82\\AC #,CN=caf\\C3\\A9,CN=\\E2\\82\\AC\\F0\\9F\\98\\"
+     "80\\C3\\A9"},
+    /* 3: the types that have a short name */
+    {"31 0a 30 08 06 03 55 04 06 13 01 78 31 0a 30 08 06 03 55 04 08 13 01 78 31 0a 30 08 06 03 55 04 07 13 01 "
+     "78 31 0a 30 08 06 03 55 04 09 13 01 78 31 0a 30 08 06 03 55 04 0a 13 01 78 31 0a 30 08 06 03 55 04 0b 13 "
+     "01 78 31 0a 30 08 06 03 55 04 03 13 01 78 31 11 30 0f 06 0a 09 92 26 89 93 f2 2c 64 01 01 13 01 78 31 11 "
+     "30 0f 06 0a 09 92 26 89 93 f2 2c 64 01 19 13 01 78",
+     "DC=x,UID=x,CN=x,OU=x,O=x,STREET=x,L=x,ST=x,C=x"},
+    /* 2.3: types without one, by their arcs and with the header of the value */
+    {"31 0d 30 0b 06 04 2a 03 04 05 0c 03 61 62 63 31 0c 30 0a 06 03 55 04 2d 03 03 00 ab cd 31 12 30 10 06 0b "
+     "88 37 ff ff ff ff ff ff ff ff 7f 13 01 78",
+     "2.999.9223372036854775807=#130178,2.5.4.45=#030300ABCD,1.2.3.4.5=#0C03616263"},
+    /* 2.4: values that are no strings */
+    {"31 0a 30 08 06 03 55 04 03 8c 01 78 31 0c 30 0a 06 03 55 04 03 2c 03 0c 01 78 31 0a 30 08 06 03 55 04 03 "
+     "1e 01 78",
+     "CN=#1E0178,CN=#2C030C0178,CN=#8C0178"},
+    /* 2.2: several attributes */
+    {"31 0a 30 08 06 03 55 04 0a 0c 01 4f 31 15 30 08 06 03 55 04 03 0c 01 61 30 09 06 03 55 04 06 13 02 46 52",
+     "CN=a+C=FR,O=O"},
+};
+
+static void test_names(void) {
+    for (size_t i = 0; i < sizeof names / sizeof *names; i++) {
+        uint8_t octets[512], text[512];
+        size_t length = octets_of(names[i].hex, octets), size = dm_name_text(octets, length, text, sizeof text);
+        expect(size == strlen(names[i].text) && memcmp(text, names[i].text, size) == 0, "dm_name_text", names[i].hex);
+    }
+}
+
 /* NULL is taken with length 0, as an empty std::vector has it. */
 static void test_none(void) {
     static const uint8_t digest_of_none[] = {0xe3, 0xb0, 0xc4, 0x42, 0x98, 0xfc, 0x1c, 0x14, 0x9a, 0xfb, 0xf4,
@@ -659,6 +703,7 @@ int main(void) {
     test_identifiers();
     test_texts();
     test_times();
+    test_names();
     test_error_texts();
     printf("rows: %d passed, %d failed\n", passed, failed);
     return failed != 0;

@@ -2,11 +2,11 @@
 // numbers: each pointer and each length crosses as a BigInt.
 
 const PAGE = 65536;
-/** The octets of a row, of an outcome and of a block, and where their fields are (crates/page_texts/src). */
+/** The octets of a row, of an outcome and of a block, and where their fields are (crates/dumarewhi_page/src/content). */
 const ROW = 64;
 const OUTCOME = 32;
 const BLOCK = 40;
-/** The forms of inputs, and why there is none, by their numbers (crates/page_texts/src/input.rt). */
+/** The forms of inputs, and why there is none, by their numbers (crates/dumarewhi_page/src/content/input.rt). */
 export const FORMS = { octets: 0, pem: 1, digits: 2 };
 export const ERRORS = {
   looksLike: 10,

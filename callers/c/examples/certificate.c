@@ -8,7 +8,7 @@ enum { CAPACITY = 1 << 20 };
 
 static uint8_t input[CAPACITY], characters[CAPACITY], octets[CAPACITY], text[CAPACITY];
 
-/* Who made the certificate chose its texts: what isn't printable ASCII is printed as \xNN. */
+/* An attacker may have chosen the text: what isn't printable ASCII is printed as \xNN. */
 static void print_text(dm_octets it) {
     for (size_t i = 0; i < it.length; i++) {
         uint8_t octet = it.octets[i];
@@ -43,7 +43,7 @@ static void print_moment(const char *title, const dm_moment *moment) {
     printf("%s: %04u-%02d-%02dT%02d:%02d:%02dZ\n", title, t->year, t->month, t->day, t->hour, t->minute, t->second);
 }
 
-/* A key of RSA has as many bits as its modulus. Of another key the octets are counted. */
+/* The size of a key: the bits of an RSA modulus, or else the octets. */
 static void print_key(const dm_certificate *it) {
     static const uint8_t rsa[] = {0x2a, 0x86, 0x48, 0x86, 0xf7, 0x0d, 0x01, 0x01, 0x01};
     dm_octets algorithm = it->key_algorithm.identifier, key = it->key.octets;
@@ -62,7 +62,7 @@ static void print_key(const dm_certificate *it) {
     }
 }
 
-/* The names of DNS that it is for (RFC 5280 4.2.1.6). */
+/* The DNS names in subjectAltName (RFC 5280 4.2.1.6). */
 static void print_hosts(dm_octets extensions) {
     dm_extension extension;
     dm_octets names;
@@ -80,7 +80,7 @@ static void print_hosts(dm_octets extensions) {
     }
 }
 
-/* Returns whether the octets are no certificate. */
+/* Returns 1 if the octets aren't a certificate. */
 static int print_certificate(const uint8_t *der, size_t length) {
     dm_certificate it;
     dm_fault fault;
@@ -102,7 +102,7 @@ static int print_certificate(const uint8_t *der, size_t length) {
     return 0;
 }
 
-/* The blocks of a text that have the label CERTIFICATE. Returns whether one isn't read, or there is none. */
+/* Prints the blocks CERTIFICATE of a text. Returns 1 if one can't be read, or there is none. */
 static int print_blocks(size_t length) {
     static const char label[] = "CERTIFICATE";
     dm_octets left = {input, length};

@@ -1,4 +1,4 @@
-/* Counts the objects of a file in DER or BER, one after the other, without a buffer for them:  count der|ber FILE */
+/* Counts the elements of a file in DER or BER without a buffer for them:  count der|ber FILE */
 #include "dumarewhi.h"
 
 #include <stdio.h>

@@ -1,11 +1,11 @@
-/* Writes a request for a certificate (RFC 2986) in DER, to standard output. What is signed is written first:
+/* Writes a certification request (RFC 2986) in DER to standard output, the part that is signed first:
  *
  *     openssl pkey -in private.pem -pubout -outform DER > key
  *     csr info key example.org > info
  *     openssl dgst -sha256 -sign private.pem info > signature
  *     csr request info signature > request
  *
- * The key is one of an elliptic curve. */
+ * The key is an EC key. */
 #include "dumarewhi.h"
 
 #include <stdio.h>
@@ -85,7 +85,7 @@ static void put_request(dm_writer *w, const uint8_t *info, size_t length, const 
     dm_close(w, request);
 }
 
-/* How many octets a file has, which are read, or 0. */
+/* Reads a file and returns the number of octets, or 0. */
 static size_t read_file(const char *name, uint8_t *octets, size_t capacity) {
     FILE *file = fopen(name, "rb");
     if (file == NULL) return 0;

@@ -1,7 +1,7 @@
 /* Reads SNMP messages (RFC 3416, in BER) from a stream that may be cut anywhere, and prints one line for each:
  * snmp < STREAM
  *
- * The buffer keeps what was read. While its front is incomplete, more is read, as many octets as are missing. */
+ * While the first message in the buffer is incomplete, it reads the missing octets. */
 #include "dumarewhi.h"
 
 #include <stdio.h>
@@ -13,7 +13,7 @@ static const char *const requests[] = {"get", "get-next", "response", "set"};
 
 enum { REQUESTS = sizeof requests / sizeof *requests };
 
-/* Who sent the message chose its texts: what isn't printable ASCII is printed as \xNN. */
+/* An attacker may have chosen the text: what isn't printable ASCII is printed as \xNN. */
 static void print_text(dm_octets text) {
     for (size_t i = 0; i < text.length; i++) {
         uint8_t octet = text.octets[i];
@@ -86,7 +86,7 @@ int main(void) {
         uint8_t text[DM_TEXT_OCTETS + 32];
         uint32_t status = dm_first_ber(buffer, filled, &element, &outcome);
         if (status == DM_INCOMPLETE) {
-            /* At least this many octets are missing: to wait for them can't wait too long. */
+            /* At least this many octets are missing, so waiting for them is never too long. */
             size_t want = outcome.missing;
             if (want > sizeof buffer - filled) {
                 fprintf(stderr, "a message is too long\n");

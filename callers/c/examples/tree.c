@@ -26,7 +26,7 @@ static uint8_t *read_file(const char *name, size_t *length) {
 
 static const char *const classes[] = {"universal", "application", "context", "private"};
 
-/* Who made the file chose its texts: what isn't printable ASCII is printed as \xNN. */
+/* An attacker may have chosen the text: what isn't printable ASCII is printed as \xNN. */
 static void print_text(const uint8_t *text, size_t length) {
     for (size_t i = 0; i < length; i++) {
         if (text[i] >= 0x20 && text[i] < 0x7f && text[i] != '\\' && text[i] != '"') putchar(text[i]);
@@ -58,7 +58,7 @@ static void print_content(const uint8_t *content, size_t length, const dm_elemen
     }
 }
 
-/* The elements inside follow an element, so its depth is the number of elements that are still open. */
+/* The elements inside an element follow it, so its depth is the number of elements still open. */
 static void print_tree(const uint8_t *input, const dm_element *elements, size_t count) {
     size_t last[DM_MAX_DEPTH + 1];
     size_t depth = 0;

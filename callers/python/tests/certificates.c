@@ -254,6 +254,7 @@ static void print_further_value(const dm_extension *extension) {
         if (dm_read_organization_identifier(value, length, &organization, &fault) != DM_OK) break;
         print_organization(&organization);
         break;
+    case DM_NO_REV_AVAIL:
     case DM_OCSP_NO_CHECK:
     case DM_PRECERTIFICATE_POISON:
         if (dm_read_null_extension(value, length, &fault) == DM_OK) printf(" null");

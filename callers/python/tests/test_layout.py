@@ -20,6 +20,8 @@ CONSTANTS = {
     "DM_LOCAL": _library.LOCAL,
     "DM_UTC": _library.UTC,
     "DM_MAX_DEPTH": MAX_DEPTH,
+    "DM_MAX_BROKEN_RULES": _certificate_calls.MAX_BROKEN_RULES,
+    "DM_RULE_MUST": _certificate_calls.RULE_MUST,
     "DM_UNIVERSAL": TagClass.UNIVERSAL,
     "DM_APPLICATION": TagClass.APPLICATION,
     "DM_CONTEXT_SPECIFIC": TagClass.CONTEXT,

@@ -50,6 +50,12 @@ def test_standard_input() -> None:
     assert shown.stdout.decode() == "     0 SEQUENCE\n     2   BOOLEAN True\n     7 NULL None\n"
 
 
+def test_texts_are_escaped() -> None:
+    """A newline, and a mark that turns the direction of a text (U+202E)."""
+    shown = run("tree", "-", octets=octets_of("0c 06 61 0a e2 80 ae 62"))
+    assert (shown.stdout, shown.returncode) == (b"     0 UTF8String 'a\\n\\u202eb'\n", 0)
+
+
 def test_pem(tmp_path: Path) -> None:
     """Each block is shown, to one that can't be read."""
     null = b"-----BEGIN A-----\nBQA=\n-----END A-----\n"

@@ -353,6 +353,24 @@ def test_unused_bits_that_there_cannot_be(octets: str, rule: Rule) -> None:
         Reader(b"\x83" + octets_of(octets)[1:], rules="ber").implicit(3, Tag.BIT_STRING)
 
 
+@pytest.mark.parametrize("content, rule", [
+    ("", Rule.NUMBER_EMPTY),
+    ("00 01", Rule.NUMBER_PADDED),
+    ("00 7f", Rule.NUMBER_PADDED),
+    ("ff 80", Rule.NUMBER_PADDED),
+])  # fmt: skip
+def test_needless_octets_of_numbers(content: str, rule: Rule) -> None:
+    """X.690 8.3.1, 8.3.2 and 8.4, by BER too."""
+    octets = octets_of(content)
+    after = bytes([len(octets)]) + octets
+    for identifier, read in ((b"\x02", Reader.integer), (b"\x0a", Reader.enumerated)):
+        with pytest.raises(DerError) as caught:
+            read(Reader(identifier + after, rules="ber"))
+        assert (caught.value.rule, caught.value.offset) == (rule, 0)
+    with pytest.raises(DerError):
+        Reader(b"\x83" + after, rules="ber").implicit(3, Tag.ENUMERATED)
+
+
 def test_strings_in_parts() -> None:
     """X.690 8.7.3 and 8.23: the library joins the parts."""
     node = parse_ber(octets_of("24 80 04 01 61 24 80 04 02 62 63 00 00 00 00")).root

@@ -48,7 +48,7 @@ IDENTIFIERS = {
     "issuing_distribution_point": ["2.5.29.28"],
     "key_usage": ["2.5.29.15"],
     "name_constraints": ["2.5.29.30"],
-    "ocsp_no_check": ["1.3.6.1.5.5.7.48.1.5", "1.3.6.1.4.1.11129.2.4.3"],
+    "ocsp_no_check": ["1.3.6.1.5.5.7.48.1.5", "1.3.6.1.4.1.11129.2.4.3", "2.5.29.56"],
     "organization_identifier": ["2.23.140.3.1"],
     "policy_constraints": ["2.5.29.36"],
     "policy_mappings": ["2.5.29.33"],
@@ -440,10 +440,12 @@ def test_certificate_of_the_repository() -> None:
 def test_requests(tmp_path: Path) -> None:
     """A request that openssl makes, and as cryptography reads it."""
     key = str(tmp_path / "key")
-    words = ["-newkey", "ed25519", "-nodes", "-keyout", key, "-subj", "/O=A, B/CN=a.example", "-outform", "DER"]
+    subject = "/C=DE/O=A, B/OU=1/OU=2/OU=3/OU=4/CN=a.example"
+    words = ["-newkey", "ed25519", "-nodes", "-keyout", key, "-subj", subject, "-outform", "DER"]
     octets = openssl("req", "-new", *words, "-addext", "subjectAltName=DNS:b.example")
     it = x509.CertificationRequest.from_der(octets)
-    assert str(it.subject) == "CN=a.example,O=A\\, B" and str(it.public_key.algorithm.identifier) == "1.3.101.112"
+    assert str(it.subject) == "CN=a.example,OU=4,OU=3,OU=2,OU=1,O=A\\, B,C=DE"
+    assert str(it.public_key.algorithm.identifier) == "1.3.101.112"
     (extension,) = it.extensions
     assert extension.value == (GeneralName(GeneralNameKind.DNS_NAME, "b.example"),)
     assert [str(attribute.identifier) for attribute in it.attributes] == ["1.2.840.113549.1.9.14"]

@@ -65,9 +65,9 @@ def errors(octets: bytes) -> Tuple[int, int, str]:
 
 def certificate(octets: bytearray) -> Tuple[int, List[str]]:
     it = x509.Certificate.from_der(octets, strict=True)
+    texts: List[str] = [rule.text for rule in it.broken_rules() if rule.is_must]
     points = it.extension("2.5.29.31")
     value: x509.ExtensionValue = b"" if points is None else points.value
-    texts: List[str] = []
     for point in value if isinstance(value, tuple) else ():
         if isinstance(point, x509.DistributionPoint):
             texts += [name.value for name in point.full_name if isinstance(name.value, str)]

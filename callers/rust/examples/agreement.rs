@@ -1,7 +1,7 @@
-//! Whether inputs are elements and nothing else, by BER and by DER: `cargo run --example agreement FILE`.
+//! Tells whether inputs are elements without trailing data, by BER and by DER: `cargo run --example agreement FILE`.
 //!
-//! The file has inputs, each after its length in four octets. Prints a digit for each: 1 if it is elements of BER, and
-//! 2 more if it is elements of DER.
+//! The file has inputs, each after its length in four octets. Prints a digit for each: the sum of 1 for BER and 2 for
+//! DER.
 use dumarewhi::{Rules, MAX_DEPTH};
 use std::io;
 

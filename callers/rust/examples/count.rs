@@ -1,5 +1,4 @@
-//! Counts the objects of a large file in DER, and those inside them, without a tree:
-//! `cargo run --release --example count FILE`.
+//! Counts all elements of a large file in DER without a tree: `cargo run --release --example count FILE`.
 use dumarewhi::{Buffer, Rules};
 use std::fs::File;
 use std::io::{self, Read};

@@ -1,4 +1,4 @@
-//! Writes a request for a certificate (RFC 2986) in DER, to standard output. What is signed is written first:
+//! Writes a certification request (RFC 2986) in DER to standard output, the part that is signed first:
 //!
 //! ```sh
 //! openssl pkey -in private.pem -pubout -outform DER > key
@@ -7,7 +7,7 @@
 //! cargo run --example csr request info signature > request
 //! ```
 //!
-//! The key is one of an elliptic curve.
+//! The key is an EC key.
 use dumarewhi::{to_vec, Result, Tag, Writer};
 use std::io::{self, Write};
 use std::process::exit;

@@ -1,5 +1,5 @@
-//! Prints the requests of SNMP version 1 and 2c (RFC 3416) that come on standard input, as they come:
-//! `cat REQUESTS | cargo run --example snmp`.
+//! Prints SNMP requests of version 1 and 2c (RFC 3416) from standard input as they arrive: `cat REQUESTS | cargo run
+//! --example snmp`.
 use dumarewhi::{Any, Buffer, Error, ErrorKind, Reader, Result, Rules, Tag};
 use std::io::{self, Read};
 

@@ -1,5 +1,5 @@
-//! Prints the fields of certificates (RFC 5280), in DER or PEM: `cargo run --features pem --example x509 FILE..`. With
-//! `--named TEXT`, of those alone whose subject has a commonName, or a name of DNS, that is the text.
+//! Prints the fields of certificates (RFC 5280) in DER or PEM: `cargo run --features pem --example x509 FILE..`.
+//! `--named TEXT` prints only those with that commonName or DNS name.
 use dumarewhi::x509::{Certificate, Extension, GeneralName, GeneralNames, PublicKey, RsaPublicKey, Value};
 use dumarewhi::{check_der, oid, pem, ObjectIdentifier};
 use std::error::Error;
@@ -25,7 +25,7 @@ fn main() {
     exit(wrong.into())
 }
 
-/// Prints the certificates of a file, to the first that isn't read.
+/// Prints the certificates of a file, up to the first error.
 fn print_file(path: &str, named: Option<&str>) -> Result<(), Box<dyn Error>> {
     for octets in encodings(fs::read(path)?)? {
         let certificate = Certificate::from_der(&octets)?;
@@ -36,8 +36,8 @@ fn print_file(path: &str, named: Option<&str>) -> Result<(), Box<dyn Error>> {
     Ok(())
 }
 
-/// The octets of the certificate in DER that a file is, or of each one that it has in PEM (RFC 7468). DER is tried
-/// first, since a text in it may hold PEM.
+/// The octets of a certificate in DER, or of each one in PEM (RFC 7468). DER is tried first, since a text in it may
+/// hold PEM.
 fn encodings(file: Vec<u8>) -> Result<Vec<Vec<u8>>, Box<dyn Error>> {
     if check_der(&file).is_ok() {
         return Ok(vec![file]);
@@ -90,7 +90,7 @@ fn print(it: &Certificate<'_>) {
     println!("sha-256: {}", hex(&it.fingerprint()));
 }
 
-/// A key of RSA has as many bits as its modulus. Of another key the octets are counted.
+/// The size of a key: the bits of an RSA modulus, or else the octets.
 fn size(key: &PublicKey<'_>) -> String {
     let octets = key.bits().raw_bytes();
     match RsaPublicKey::from_der(octets) {
@@ -134,7 +134,7 @@ fn general_names(names: GeneralNames<'_>) -> String {
         .join(", ")
 }
 
-/// Who made the certificate chose the texts of names, so they are escaped. The text of a `Name` has escapes.
+/// An attacker may have chosen the texts, so they are escaped. The text of a `Name` is escaped already.
 fn general_name(name: &GeneralName<'_>) -> String {
     if let Some(address) = name.ip_addr() {
         return format!("IP:{address}");

@@ -8,8 +8,8 @@ use core::ops::Range;
 
 /// An element of any type.
 ///
-/// Its `as_` calls give the value of a type, if the element has the tag of that type. Its parts are slices of
-/// the input that it was read from. Two of them are equal if their tags and octets are, wherever they begin.
+/// Its `as_` calls return a value if the element has the tag of that type. Its parts are slices of the input. Two
+/// elements are equal if their tags and octets are, at any offset.
 ///
 /// ```
 /// use dumarewhi::{Any, Tag};
@@ -24,22 +24,22 @@ use core::ops::Range;
 #[derive(Clone, Copy)]
 pub struct Any<'a> {
     input: &'a [u8],
-    /// Where it is in the input.
+    /// Its offsets in the input.
     element: Element,
-    /// Where the input begins in the outermost one.
+    /// Offset of the input in the outermost one.
     base: usize,
     rules: Rules,
-    /// The tag of its type, unless an implicit one is in its place.
+    /// The tag of its type, or the implicit tag that replaces it.
     tag: Tag,
 }
 
 impl<'a> Any<'a> {
-    /// Reads the one element that the input is in DER, and checks what is inside it.
+    /// Reads an input that is one element in DER, and checks what is inside it.
     pub fn from_der(input: &'a [u8]) -> Result<Any<'a>> {
         whole(input, Rules::DER.any(input)?)
     }
 
-    /// Reads as [`from_der`](Any::from_der), by BER.
+    /// Reads by BER, as [`from_der`](Any::from_der) does by DER.
     pub fn from_ber(input: &'a [u8]) -> Result<Any<'a>> {
         whole(input, Rules::BER.any(input)?)
     }
@@ -70,7 +70,7 @@ impl<'a> Any<'a> {
         self.element.is_constructed()
     }
 
-    /// Where the content octets begin, in octets from the start of the input.
+    /// The offset of the content octets in the input.
     pub fn content_offset(&self) -> usize {
         self.base.saturating_add(self.element.content)
     }
@@ -131,15 +131,15 @@ macro_rules! calls {
 calls! {
     /// The class of the tag.
     class: Class = |it| it.tag.class;
-    /// Where the element begins, in octets from the start of the input.
+    /// The offset of the element in the input.
     offset: usize = |it| it.base.saturating_add(it.element.header);
     /// The identifier and length octets.
     header: &'a [u8] = |it| it.part(it.element.header_range());
-    /// The content octets, without an end marker.
+    /// The content octets, without end-of-contents octets.
     content: &'a [u8] = |it| it.part(it.element.content_range());
-    /// All octets: the header, the content, and an end marker (X.690 8.1.5) after an indefinite length.
+    /// All octets: header, content, and the end-of-contents octets (X.690 8.1.5) after an indefinite length.
     octets: &'a [u8] = |it| it.part(it.element.range());
-    /// A reader of the elements that a constructed element's content octets are, by the same rules.
+    /// A reader of the elements inside a constructed element, by the same rules.
     ///
     /// ```
     /// use dumarewhi::Any;
@@ -165,8 +165,8 @@ calls! {
     /// An OBJECT IDENTIFIER (X.690 8.19).
     as_oid: Result<ObjectIdentifier<'a>> = |it| it.read(Tag::OBJECT_IDENTIFIER, Reader::oid);
     /// A character string (X.690 8.23): UTF8String, NumericString, PrintableString, IA5String, VisibleString,
-    /// TeletexString, VideotexString, GraphicString, GeneralString or ObjectDescriptor. The octets of the
-    /// last five are taken as UTF-8. A BMPString or UniversalString is no `&str`: its octets are the content.
+    /// TeletexString, VideotexString, GraphicString, GeneralString or ObjectDescriptor. The last five are read as
+    /// UTF-8. A BMPString or UniversalString is no `&str`: take its content octets.
     as_str: Result<&'a str> = |it| match it.tag.is_text() {
         true => it.read(it.tag, |reader| reader.text(it.tag)),
         false => Err(it.unexpected(None)),
@@ -185,7 +185,7 @@ calls! {
 }
 
 impl Rules {
-    /// Reads the first element, and checks what is inside it. Returns what follows it, and the element.
+    /// Reads the first element, and checks what is inside it. Returns the rest of the input, and the element.
     ///
     /// ```
     /// use dumarewhi::Rules;

@@ -4,13 +4,13 @@ use crate::ffi::{self, Element, Outcome};
 use crate::{Error, Tag};
 use core::ops::Range;
 
-/// How deep elements may be, unless [`Rules::with_max_depth`] changes it: the outermost one is 1 deep, one inside it 2.
-/// Larger values are clamped to this one. A level takes 1024 octets of the stack at most, which is measured.
+/// The default and largest depth of elements; [`Rules::with_max_depth`] allows less. The outermost element has depth 1.
+/// A level takes at most 1024 octets of stack, as measured.
 pub const MAX_DEPTH: usize = ffi::MAX_DEPTH;
 
-/// The rules of an encoding, and how deep elements may be.
+/// BER or DER, and the largest depth of elements.
 ///
-/// Its calls read the first element of an input. What follows it is left to the caller.
+/// Its calls read the first element of an input and leave the rest.
 ///
 /// ```
 /// use dumarewhi::Rules;
@@ -29,12 +29,12 @@ pub struct Rules {
     max_depth: usize,
 }
 
-/// What the first element of an input has.
+/// The size of the first element of an input.
 #[derive(Clone, Copy, Debug, PartialEq, Eq, Hash)]
 pub struct Found {
-    /// How many elements there are: itself and those that are inside it.
+    /// Number of elements: itself and those inside it.
     pub elements: usize,
-    /// How many octets it has, its header and an end marker among them.
+    /// Number of octets, with its header and end-of-contents octets.
     pub length: usize,
 }
 
@@ -51,8 +51,7 @@ impl Rules {
         max_depth: MAX_DEPTH,
     };
 
-    /// The same rules with another depth: 1 allows an element with no other inside. Larger values than [`MAX_DEPTH`]
-    /// are clamped to it.
+    /// The same rules with another depth, at most [`MAX_DEPTH`]. With 1 no element may be inside another.
     pub const fn with_max_depth(self, max_depth: usize) -> Rules {
         Rules {
             der: self.der,
@@ -60,7 +59,7 @@ impl Rules {
         }
     }
 
-    /// How deep elements may be.
+    /// The largest depth of elements.
     pub const fn max_depth(self) -> usize {
         self.max_depth
     }
@@ -75,15 +74,14 @@ impl Rules {
         found(ffi::check(self.der, input, self.max_depth), input)
     }
 
-    /// Lists the first element and those inside it in preorder. The first of them are written to the buffer,
-    /// as many as fit. [`Found::elements`] is how many there are, also if fewer fit. After an error, the
-    /// buffer's contents are unspecified.
+    /// Lists the first element and those inside it in preorder. If the buffer is too small, it gets the first ones;
+    /// [`Found::elements`] counts all. After an error its contents are unspecified.
     pub fn list(self, input: &[u8], elements: &mut [Element]) -> Result<Found> {
         found(ffi::list(self.der, input, self.max_depth, elements), input)
     }
 
-    /// Finds how many octets the first element has, by its header alone (and by its framing, if its length is
-    /// indefinite). Nothing inside it is checked. More than 49 indefinite lengths inside one another are an error.
+    /// Returns the number of octets of the first element, without checking its content. More than 49 nested indefinite
+    /// lengths are an error.
     ///
     /// ```
     /// use dumarewhi::Rules;
@@ -97,8 +95,8 @@ impl Rules {
         found(ffi::first(self.der, input).0, input).map(|found| found.length)
     }
 
-    /// Finds the first element, by its header alone (and by its framing, if its length is indefinite). Nothing
-    /// inside it is checked or counted. More than 49 indefinite lengths inside one another are an error.
+    /// Returns the first element without checking or counting what is inside it. More than 49 nested indefinite lengths
+    /// are an error.
     ///
     /// ```
     /// use dumarewhi::{Rules, Tag};
@@ -113,7 +111,7 @@ impl Rules {
         found(outcome, input).map(|_| element)
     }
 
-    /// The same rules for what is inside an element.
+    /// The rules for what is inside an element.
     pub(crate) fn inside(self) -> Rules {
         self.with_max_depth(self.max_depth.min(MAX_DEPTH).saturating_sub(1))
     }
@@ -139,7 +137,7 @@ pub(crate) fn found(outcome: Outcome, input: &[u8]) -> Result<Found> {
     }
 }
 
-/// What is read of an input, if no octets are left of it.
+/// The result of a read, if nothing is left of the input.
 pub(crate) fn whole<T>(input: &[u8], (rest, value): (&[u8], T)) -> Result<T> {
     match rest.len() {
         0 => Ok(value),
@@ -150,14 +148,14 @@ pub(crate) fn whole<T>(input: &[u8], (rest, value): (&[u8], T)) -> Result<T> {
     }
 }
 
-/// How many elements an input is, if no octets follow them.
+/// The number of elements of an input without trailing data.
 fn count(input: &[u8], found: Found) -> Result<usize> {
     let rest = input.get(found.length..).unwrap_or_default();
     whole(input, (rest, found.elements))
 }
 
-/// Checks that the input is one element in DER and nothing else. Returns how many elements there are: itself
-/// and those inside it.
+/// Checks that the input is one element in DER, without trailing data. Returns the number of elements: itself and those
+/// inside it.
 ///
 /// ```
 /// use dumarewhi::check_der;
@@ -169,7 +167,7 @@ pub fn check_der(input: &[u8]) -> Result<usize> {
     count(input, Rules::DER.check(input)?)
 }
 
-/// Checks as [`check_der`], by BER.
+/// Checks by BER, as [`check_der`] does by DER.
 ///
 /// ```
 /// use dumarewhi::check_ber;
@@ -180,8 +178,8 @@ pub fn check_ber(input: &[u8]) -> Result<usize> {
     count(input, Rules::BER.check(input)?)
 }
 
-/// Lists the one element that the input is in DER and those inside it, in preorder. The first of them are
-/// written to the buffer, as many as fit. Returns how many there are, also if fewer fit.
+/// Lists an input that is one element in DER, with those inside it, in preorder. If the buffer is too small, it gets
+/// the first ones. Returns the number of all.
 ///
 /// ```
 /// use dumarewhi::{check_der, list_der, Element};
@@ -197,7 +195,7 @@ pub fn list_der(input: &[u8], elements: &mut [Element]) -> Result<usize> {
     count(input, Rules::DER.list(input, elements)?)
 }
 
-/// Lists as [`list_der`], by BER.
+/// Lists by BER, as [`list_der`] does by DER.
 ///
 /// ```
 /// use dumarewhi::{list_ber, Element};
@@ -229,27 +227,27 @@ impl Element {
         self.definite != 0
     }
 
-    /// How many elements are inside it, at any depth: the next ones in the list.
+    /// Number of elements inside it, at any depth: the next ones in the list.
     pub fn descendants(&self) -> usize {
         self.inside
     }
 
-    /// Where its header begins.
+    /// The offset of its header.
     pub fn offset(&self) -> usize {
         self.header
     }
 
-    /// Where its identifier and length octets are.
+    /// The offsets of its identifier and length octets.
     pub fn header_range(&self) -> Range<usize> {
         self.header..self.content
     }
 
-    /// Where its content octets are.
+    /// The offsets of its content octets.
     pub fn content_range(&self) -> Range<usize> {
         self.content..self.end
     }
 
-    /// Where all its octets are, an end marker among them.
+    /// The offsets of all its octets, with end-of-contents octets.
     pub fn range(&self) -> Range<usize> {
         self.header..self.after()
     }
@@ -259,7 +257,7 @@ impl Element {
         input.get(self.content_range())
     }
 
-    /// Where the octets begin that follow it: an end marker has two octets.
+    /// The offset after it: end-of-contents octets are two.
     fn after(&self) -> usize {
         if self.is_definite() {
             self.end

@@ -1,11 +1,11 @@
-//! Why an input isn't read, or a value isn't written.
+//! Why an input can't be read, or a value can't be written.
 use crate::ffi::{self, Fault};
 use crate::x509::Field;
 use crate::{Rules, Tag};
 use core::fmt;
 
-/// Why an input isn't read, or has no value of the type that is asked for, and where. One of a certificate also has the
-/// field, and displays with it.
+/// Why an input can't be read or has no such value, and where. An error of a certificate also has the field, and
+/// displays it.
 ///
 /// ```
 /// use dumarewhi::{check_der, ErrorKind};
@@ -22,7 +22,7 @@ use core::fmt;
 #[derive(Clone, Copy, Debug, PartialEq, Eq, Hash)]
 pub struct Error {
     kind: ErrorKind,
-    /// What the library has of a certificate. Of another input the offset alone.
+    /// The library's error of a certificate; for another input only its offset.
     fault: Fault,
     /// Of a certificate: the tag of the element, if it isn't the expected one.
     found: Option<Tag>,
@@ -32,39 +32,39 @@ pub struct Error {
 #[derive(Clone, Copy, Debug, PartialEq, Eq, Hash)]
 #[non_exhaustive]
 pub enum ErrorKind {
-    /// The input breaks a rule of its encoding. No further input mends that.
+    /// The input breaks a rule of its encoding. More input doesn't help.
     Malformed(Reason),
-    /// The content octets have no value of the type that is asked for. So it is with a number that is too
-    /// large for a `u64`, and with a time that is valid by BER and that no [`Time`](crate::Time) is.
+    /// The content octets have no value of this type, such as a number above `u64`, or a time of BER that isn't a
+    /// [`Time`](crate::Time).
     Value(Reason),
     /// The input is cut short: more octets may complete it.
     Incomplete {
-        /// How many octets are missing, as far as the input shows: those up to the end of the outermost element, once
-        /// its header gives its length.
+        /// Number of missing octets, as far as the input shows: up to the end of the outermost element, once its header
+        /// gives its length.
         missing: usize,
     },
-    /// An element runs past the end of a content that is read by itself, as [`Node::parse_content`] reads that of an
-    /// OCTET STRING. No further input mends that. In any other content it is [`Reason::OVERRUN`].
+    /// An element runs past the end of content that [`Node::parse_content`] reads. More input doesn't help. In other
+    /// content this is [`Reason::OVERRUN`].
     ///
     /// [`Node::parse_content`]: crate::Node::parse_content
     Overrun {
-        /// How many octets are missing in the content.
+        /// Number of octets that the content lacks.
         missing: usize,
     },
     /// There is trailing data where the input, or the content of an element, should end.
     TrailingData,
-    /// The content of an element ends where another element is expected in it.
+    /// The content of an element ends where another element is expected.
     MissingElement,
     /// An element has another tag than the expected one.
     UnexpectedTag {
-        /// The expected tag, unless there are several.
+        /// The expected tag, if there is only one.
         expected: Option<Tag>,
         /// The tag of the element.
         actual: Tag,
     },
-    /// An element with this tag is primitive, and a constructed one is expected.
+    /// An element with this tag is primitive instead of constructed.
     ConstructedExpected(Tag),
-    /// An element with this tag is constructed, and a primitive one is expected.
+    /// An element with this tag is constructed instead of primitive.
     PrimitiveExpected(Tag),
     /// An element is longer than the limit of a [`Buffer`](crate::Buffer).
     TooLong {
@@ -73,16 +73,16 @@ pub enum ErrorKind {
     },
     /// The buffer of a [`Writer`](crate::Writer) is too small.
     NoRoom {
-        /// How many octets are needed.
+        /// Number of octets that are needed.
         needed: usize,
     },
-    /// There is no memory for the elements.
+    /// An allocation failed.
     OutOfMemory,
-    /// An error of the caller's own.
+    /// An error of your own.
     Other(&'static str),
 }
 
-/// The number of an error in `dumarewhi.h`. It displays as the error's text.
+/// The number of an error in `dumarewhi.h`. It displays as its text.
 ///
 /// ```
 /// use dumarewhi::{check_der, ErrorKind, Reason};
@@ -99,7 +99,7 @@ pub struct Reason(pub(crate) u32);
 pub type Result<T, E = Error> = core::result::Result<T, E>;
 
 impl Error {
-    /// An error at this offset. A caller makes its own errors with [`ErrorKind::Other`].
+    /// An error at this offset. Make your own errors with [`ErrorKind::Other`].
     ///
     /// ```
     /// use dumarewhi::{Error, ErrorKind};
@@ -157,19 +157,18 @@ impl Error {
         self.kind
     }
 
-    /// Where it is wrong, in octets from the start of the input: where the innermost element begins that shows the
-    /// error. For an input that is cut short, its end, or from a [`Reader`](crate::Reader) or of a certificate where
-    /// the element begins that isn't whole.
+    /// The offset of the innermost element that is wrong. If the input is cut short: its end, or from a
+    /// [`Reader`](crate::Reader) and of a certificate the offset of the unfinished element.
     pub const fn offset(&self) -> usize {
         self.fault.offset
     }
 
-    /// The first field that is wrong of a certificate. [`Field::None`] of another input.
+    /// The first wrong field of a certificate. [`Field::None`] for another input.
     pub fn field(&self) -> Field {
         Field::from_number(self.fault.field)
     }
 
-    /// Of a certificate: where the element ends that this one is in. `None` if it is outermost.
+    /// For a certificate: the end of the element around the wrong one. `None` if it is outermost.
     pub fn list_end(&self) -> Option<usize> {
         (self.fault.is_in_list != 0).then_some(self.fault.list_end)
     }
@@ -187,7 +186,7 @@ impl Error {
         self.found
     }
 
-    /// Which rule is broken, if it is one that has a number.
+    /// The broken rule, if it has a number.
     pub const fn reason(&self) -> Option<Reason> {
         match self.kind {
             ErrorKind::Malformed(reason) | ErrorKind::Value(reason) => Some(reason),
@@ -195,12 +194,12 @@ impl Error {
         }
     }
 
-    /// Whether more input may mend the error.
+    /// Whether more input may help.
     pub const fn is_incomplete(&self) -> bool {
         matches!(self.kind, ErrorKind::Incomplete { .. })
     }
 
-    /// How many octets are missing, as far as the input shows, if more input may mend the error.
+    /// Number of missing octets, as far as the input shows, if more input may help.
     pub const fn missing(&self) -> Option<usize> {
         match self.kind {
             ErrorKind::Incomplete { missing } => Some(missing),
@@ -208,8 +207,8 @@ impl Error {
         }
     }
 
-    /// Of a certificate: how many octets the element needs, as far as the input shows, if it is cut short or runs past
-    /// the end of the element around it.
+    /// For a certificate: number of octets that an element needs, as far as the input shows, if it is cut short or runs
+    /// past the end of the element around it.
     pub fn needed(&self) -> Option<usize> {
         (self.fault.needed != 0).then_some(self.fault.needed)
     }
@@ -320,7 +319,7 @@ reasons! {
     REAL_SPECIAL = 83, "a special value of a REAL isn't known (X.690 8.5.9)";
     REAL_DECIMAL = 84, "a decimal REAL isn't in its form of ISO 6093 (X.690 8.5.8)";
     REAL_DECIMAL_NOT_STRICT = 85, "a decimal REAL has needless characters (X.690 11.3.2)";
-    NOT_UTF8 = 86, "a UTF8String isn't UTF-8 (X.690 8.23.10)";
+    NOT_UTF8 = 86, "a text isn't UTF-8 (X.690 8.21, 8.22, 8.23.10)";
     CHARACTER_OUTSIDE = 87, "an octet is outside of the character set (X.690 8.23)";
     UNIVERSAL_STRING_LENGTH = 88, "a UniversalString isn't groups of four octets (X.690 8.23.7)";
     BMP_STRING_LENGTH = 89, "a BMPString isn't pairs of octets (X.690 8.23.9)";
@@ -354,7 +353,7 @@ reasons! {
     PEM_NO_ROOM = 197, "a buffer is too small for the block";
 }
 
-/// How many octets the text of an error has at most.
+/// The most octets of an error's text.
 pub(crate) const LONGEST_TEXT: usize = 160;
 
 /// What the function makes of a text that is written to a slice, and whose length is returned. One of more than `N`
@@ -376,8 +375,8 @@ pub(crate) fn with_text<const N: usize, T>(
     core::str::from_utf8(long.get(..length)?).ok().map(function)
 }
 
-/// Shows the text of an error that is written to a slice.
-fn show(f: &mut fmt::Formatter<'_>, write: impl Fn(&mut [u8]) -> usize) -> fmt::Result {
+/// Shows a text that is written to a slice.
+pub(crate) fn show(f: &mut fmt::Formatter<'_>, write: impl Fn(&mut [u8]) -> usize) -> fmt::Result {
     with_text::<LONGEST_TEXT, _>(|text| Some(write(text)), |text| f.write_str(text))
         .unwrap_or(Err(fmt::Error))
 }
@@ -445,8 +444,7 @@ impl std::error::Error for Error {}
 #[cfg(feature = "std")]
 impl std::error::Error for Reason {}
 
-/// An input that is cut short is `UnexpectedEof`, memory that runs out is `OutOfMemory`, and the others are
-/// `InvalidData`.
+/// `UnexpectedEof` if the input is cut short, `OutOfMemory` if an allocation failed, else `InvalidData`.
 #[cfg(feature = "std")]
 impl From<Error> for std::io::Error {
     fn from(error: Error) -> std::io::Error {

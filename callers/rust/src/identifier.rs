@@ -10,11 +10,10 @@ use core::cmp::Ordering;
 use core::fmt;
 use core::iter::FusedIterator;
 
-/// An OBJECT IDENTIFIER (X.690 8.19), over its content octets. It displays as its arcs with points.
+/// An OBJECT IDENTIFIER (X.690 8.19), over its content octets. It displays as in `2.5.4.3`.
 ///
-/// [`oid!`](crate::oid!) makes one of arcs while a program is compiled. `ObjectIdentifierBuf` makes one of a text.
-/// Two of them are equal if their content octets are, and they sort by their arcs. No octets have no arcs, and an empty
-/// text.
+/// [`oid!`](crate::oid!) makes one at compile time, and `ObjectIdentifierBuf` from a text. They compare by content
+/// octets and sort by arcs. One without octets has no arcs and an empty text.
 ///
 /// ```
 /// use dumarewhi::{oid, Any, ObjectIdentifier};
@@ -31,12 +30,11 @@ use core::iter::FusedIterator;
 #[derive(Clone, Copy, PartialEq, Eq, Hash)]
 pub struct ObjectIdentifier<'a>(&'a [u8]);
 
-/// An identifier with a longer text is written in memory that is allocated for it, if the feature `alloc` is on.
+/// A longer text is written to allocated memory, with the feature `alloc`.
 const SHORT_TEXT: usize = 256;
 
 impl<'a> ObjectIdentifier<'a> {
-    /// The identifier with these content octets. An error if the last octet isn't the end of an arc, or if
-    /// a subidentifier is 2^128 or more.
+    /// An identifier from content octets. An error if the last arc is unfinished, or a subidentifier is 2^128 or more.
     pub fn from_content(content: &'a [u8]) -> Result<ObjectIdentifier<'a>, Reason> {
         ffi::read_oid(content, &mut []).map_err(Reason)?;
         Ok(ObjectIdentifier(content))
@@ -47,8 +45,8 @@ impl<'a> ObjectIdentifier<'a> {
         self.0
     }
 
-    /// The arcs, the first ones first. The first subidentifier has two of them (X.690 8.19.4). One of 2^128 or more, as
-    /// an identifier may have that a [`Reader`](crate::Reader) read or that is of a certificate, counts as 2^128-1.
+    /// The arcs in order. The first subidentifier has two (X.690 8.19.4). An arc of 2^128 or more, which only a read
+    /// identifier may have, counts as 2^128-1.
     ///
     /// ```
     /// use dumarewhi::oid;
@@ -63,7 +61,7 @@ impl<'a> ObjectIdentifier<'a> {
         }
     }
 
-    /// Whether its arcs begin with those of another one.
+    /// Whether its arcs begin with those of the other.
     ///
     /// ```
     /// use dumarewhi::oid;
@@ -81,7 +79,7 @@ impl<'a> ObjectIdentifier<'a> {
     }
 }
 
-/// One that the library has read. It may have an arc of 2^128 or more.
+/// An identifier that the library has read. It may have an arc of 2^128 or more.
 impl<'a> From<Octets<'a>> for ObjectIdentifier<'a> {
     fn from(content: Octets<'a>) -> ObjectIdentifier<'a> {
         ObjectIdentifier(content.get())
@@ -92,15 +90,15 @@ forward!(TryFrom by from_content for ObjectIdentifier, Reason);
 forward!(AsRef by as_bytes for ObjectIdentifier<'_>);
 forward!(PartialOrd for ObjectIdentifier<'_>);
 
-/// By their arcs. Spellings of the same arcs sort by their octets.
+/// By arcs; different encodings of the same arcs by octets.
 impl Ord for ObjectIdentifier<'_> {
     fn cmp(&self, other: &Self) -> Ordering {
         self.arcs().cmp(other.arcs()).then_with(|| self.0.cmp(other.0))
     }
 }
 
-/// Arcs with points. An identifier that has an arc of 2^128 or more is `#` and its content octets in hexadecimal
-/// digits. Without the feature `alloc`, so is one whose text has more than 256 octets.
+/// Arcs with points. With an arc of 2^128 or more: `#` and the content octets in hex. Without the feature `alloc` also
+/// if the text has more than 256 octets.
 impl fmt::Display for ObjectIdentifier<'_> {
     fn fmt(&self, f: &mut fmt::Formatter<'_>) -> fmt::Result {
         if let Some(shown) = self.with_text(|text| f.pad(text)) {
@@ -163,8 +161,7 @@ impl Iterator for Arcs<'_> {
 
 impl FusedIterator for Arcs<'_> {}
 
-/// An [`ObjectIdentifier`] while a program is compiled, of its arcs. Arcs that no identifier has (X.690 8.19.4) don't
-/// compile.
+/// Makes an [`ObjectIdentifier`] at compile time from its arcs. Arcs that aren't allowed (X.690 8.19.4) don't compile.
 ///
 /// ```
 /// use dumarewhi::{oid, ObjectIdentifier};
@@ -191,7 +188,7 @@ pub const fn oid_of(octets: &'static [u8]) -> ObjectIdentifier<'static> {
     ObjectIdentifier(octets)
 }
 
-/// How many content octets an identifier with these arcs has.
+/// The number of content octets of an identifier with these arcs.
 #[doc(hidden)]
 pub const fn oid_length(arcs: &[u128]) -> usize {
     let mut next = first_subidentifier(arcs);

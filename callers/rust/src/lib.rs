@@ -16,41 +16,38 @@
 //! | To | use |
 //! |---|---|
 //! | read a whole input, and look at its elements | [`Tree`], [`Node`] |
-//! | read the fields of a type, one after the other | [`Reader`] |
-//! | take input in pieces, as from a socket | [`Buffer`] |
+//! | read field after field | [`Reader`] |
+//! | read from a socket, piece by piece | [`Buffer`] |
 //! | check, list or count without allocating | [`check_der`], [`list_der`], [`Rules`] |
 //! | read one element | [`Any`] |
 //! | read certificates | [`x509::Certificate`] |
-//! | read lists of revoked certificates, requests, keys | [`x509`] |
-//! | read and write types of your own | [`Decode`], [`Encode`] |
-//! | write DER, element after element | [`Writer`], [`to_vec`] |
-//! | write BER as DER | [`write_der`], [`to_der`] |
+//! | read CRLs, requests, keys | [`x509`] |
+//! | read and write your own types | [`Decode`], [`Encode`] |
+//! | write DER | [`Writer`], [`to_vec`] |
+//! | convert BER to DER | [`write_der`], [`to_der`] |
 //!
 //! [`guide`] is for users of der-parser, der and asn1.
 //!
 //! # What is proved
 //!
-//! The work is done by `libdumarewhi_c.a`, which is written in Rattle and proved: which inputs it reads, which
-//! elements it lists and where, which error it reports, which values it gives, which fields a [`Reader`] and [`x509`]
-//! read, which octets a [`Writer`] writes, and that what [`write_der`] writes is the input as DER writes it. The texts
-//! of errors and names are tested. Its header `dumarewhi.h` has the calls. This crate passes slices to them, and makes
-//! safe types of what they return.
+//! The library `libdumarewhi_c.a` does the work. It is written in Rattle and proved: which inputs it accepts, which
+//! elements and values it returns, which errors and broken rules, and which octets it writes. Texts of errors, names
+//! and rules are tested. This crate calls it through `dumarewhi.h` and is tested, not proved.
 //!
-//! It computes little itself: slices of the input by the offsets that are listed, the steps from an element of a
-//! [`Tree`] to the next, how deep the elements of a [`Reader`] may be and whether a default value is written, what is
-//! kept of an input that comes in pieces, the octets of a BMPString that is written, those of [`oid!`] and the arcs of
-//! an [`ObjectIdentifier`], the order of numbers, and the days of a calendar. That is tested, and not proved.
+//! The crate itself computes: slices of the input, the steps through a [`Tree`], the depth and the defaults of a
+//! [`Reader`], a [`Buffer`], UTF-16 of a BMPString, arcs of identifiers, the order of numbers, and the days of a
+//! calendar.
 //!
 //! # What you might not expect
 //!
-//! - The content of a constructed element of any class, as `[0]`, is elements (X.690 8.1.4), and they are in a
-//!   [`Tree`]. What an OCTET STRING holds isn't: [`Node::parse_content`] reads it.
-//! - Rules that need the ASN.1 type aren't checked: the order of a SET, default values, named bits. Nor is by BER that
-//!   the parts of a string are of its type.
-//! - Readers don't join the parts of a constructed string. [`write_der`] does.
-//! - [`Writer::set`] keeps the order of its elements; [`Writer::set_of`] sorts them. A [`Writer`] leaves out no default
-//!   value. Only [`Writer::finish`] and [`to_vec`] return that a buffer is too small.
-//! - Elements are [`MAX_DEPTH`] deep at most: [`Rules::with_max_depth`] allows less.
+//! - The content of a constructed element of any class, such as `[0]`, is elements (X.690 8.1.4) of the [`Tree`].
+//!   [`Node::parse_content`] reads an encoding inside an OCTET STRING.
+//! - Rules that need the ASN.1 type aren't checked: the order of a SET, default values, named bits. By BER the types of
+//!   a string's parts aren't either.
+//! - Readers don't join a constructed string. [`write_der`] does.
+//! - [`Writer::set`] keeps the order of its elements; [`Writer::set_of`] sorts them. A [`Writer`] also writes default
+//!   values. Only [`Writer::finish`] and [`to_vec`] report a buffer that is too small.
+//! - Elements are at most [`MAX_DEPTH`] deep. [`Rules::with_max_depth`] allows less.
 //!
 //! # Features
 //!

@@ -1,4 +1,4 @@
-//! Blocks of PEM (RFC 7468), by calls that are proved. This is the feature `pem`.
+//! Blocks of PEM (RFC 7468). This is the feature `pem`.
 //!
 //! ```
 //! use dumarewhi::pem;
@@ -15,11 +15,11 @@ use crate::{Error, ErrorKind, Reason, Result};
 use alloc::vec::Vec;
 use core::iter::FusedIterator;
 
-/// The blocks of a text, and any text around them. A block begins at the start of a line, or after white space, quotes
-/// or a mark `>`. What they are isn't checked.
+/// Reads the blocks of a text and skips the text around them. A block begins at the start of a line, or after white
+/// space, quotes or `>`. Labels and contents aren't checked.
 ///
-/// Each block is `Ok`, or an error at the offset where it begins: its base64 (RFC 4648) isn't right, or it is encrypted
-/// (RFC 1421). A block without an end, or with another label at its end, is an error and the last one.
+/// A block with wrong base64 (RFC 4648) or an encrypted one (RFC 1421) is an error at its offset; the next block
+/// follows. A block without an end, or with another label there, is an error and the last one.
 pub fn blocks(text: &[u8]) -> Blocks<'_> {
     Blocks {
         text: Octets::of(text),
@@ -38,22 +38,22 @@ pub struct Block<'t> {
 }
 
 impl<'t> Block<'t> {
-    /// Its label, such as `CERTIFICATE`. An empty text if that isn't UTF-8.
+    /// Its label, such as `CERTIFICATE`; empty if it isn't UTF-8.
     pub fn label(&self) -> &'t str {
         core::str::from_utf8(self.label).unwrap_or_default()
     }
 
-    /// Where it begins, in octets from the start of the text.
+    /// Its offset in the text.
     pub fn offset(&self) -> usize {
         self.offset
     }
 
-    /// What it encodes.
+    /// Its decoded octets.
     pub fn octets(&self) -> &[u8] {
         &self.octets
     }
 
-    /// What it encodes.
+    /// Its decoded octets.
     pub fn into_octets(self) -> Vec<u8> {
         self.octets
     }
@@ -61,7 +61,7 @@ impl<'t> Block<'t> {
 
 forward!(AsRef by octets for Block<'_>);
 
-/// The blocks of a text, as [`blocks`] has them.
+/// An iterator over the blocks of a text, from [`blocks`].
 #[derive(Clone, Debug)]
 pub struct Blocks<'t> {
     /// What is left of it.

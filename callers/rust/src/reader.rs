@@ -3,12 +3,11 @@ use crate::error::{ErrorKind, Result};
 use crate::ffi::{self, Cursor, Fault};
 use crate::{Any, BitString, Class, Decode, Error, Integer, ObjectIdentifier, Reason, Rules, Tag, Time};
 
-/// Reads the fields of a type, one after the other, by calls that are proved.
+/// Reads the fields of an ASN.1 type, one after another.
 ///
-/// Each call reads the next element, and compares its tag. What is inside a list is read by the calls that follow, all
-/// of it, and [`any`](Reader::any) checks what is inside the element that it returns. After an error the reader is
-/// where it was. It keeps no list, and never allocates. By BER, more than 49 indefinite lengths inside one another are
-/// an error.
+/// Each call reads the next element and compares its tag. A function that reads a list must read all of it.
+/// [`any`](Reader::any) also checks what is inside the element. After an error the reader's position is unchanged. It
+/// never allocates. By BER more than 49 nested indefinite lengths are an error.
 ///
 /// ```
 /// use dumarewhi::{Reader, Tag};
@@ -29,7 +28,7 @@ use crate::{Any, BitString, Class, Decode, Error, Integer, ObjectIdentifier, Rea
 #[derive(Clone, Debug)]
 pub struct Reader<'a> {
     cursor: Cursor<'a>,
-    /// How deep the elements may be.
+    /// The largest depth of elements.
     max_depth: usize,
 }
 
@@ -103,7 +102,7 @@ impl<'a> Reader<'a> {
         }
     }
 
-    /// A reader of octets that an element has, which begin at this offset of the outermost input.
+    /// A reader of an element's octets, at this offset of the outermost input.
     pub(crate) fn inside(octets: &'a [u8], offset: usize, rules: Rules) -> Reader<'a> {
         let mut reader = Reader::with_rules(octets, rules);
         reader.cursor.offset = offset;
@@ -118,7 +117,7 @@ impl<'a> Reader<'a> {
         }
     }
 
-    /// Where the next element begins, in octets from the start of the outermost input.
+    /// The offset of the next element in the outermost input.
     pub fn offset(&self) -> usize {
         self.cursor.offset
     }
@@ -210,7 +209,7 @@ impl<'a> Reader<'a> {
         Ok(has)
     }
 
-    /// Reads by the function, and stays where it was if that returns an error.
+    /// Reads with the function. After an error the position is unchanged.
     pub(crate) fn attempt<T>(&mut self, function: impl FnOnce(&mut Reader<'a>) -> Result<T>) -> Result<T> {
         let mut after = self.clone();
         let value = function(&mut after)?;
@@ -233,8 +232,7 @@ impl<'a> Reader<'a> {
         T::decode(self)
     }
 
-    /// Reads a value with a default, which is returned if there is none. By DER an error if the default is written
-    /// (X.690 11.5).
+    /// Reads a value, or returns its default if it is absent. By DER an encoded default is an error (X.690 11.5).
     ///
     /// ```
     /// use dumarewhi::Reader;
@@ -255,7 +253,7 @@ impl<'a> Reader<'a> {
         })
     }
 
-    /// Reads an element of any type, and checks what is inside it.
+    /// Reads an element of any type and checks what is inside it.
     ///
     /// ```
     /// use dumarewhi::Reader;
@@ -279,12 +277,12 @@ impl<'a> Reader<'a> {
         })
     }
 
-    /// Reads a SEQUENCE: the function reads its elements, all of them.
+    /// Reads a SEQUENCE. The function must read all its elements.
     pub fn sequence<T>(&mut self, function: impl FnOnce(&mut Reader<'a>) -> Result<T>) -> Result<T> {
         self.list(Tag::SEQUENCE, Cursor::sequence, function)
     }
 
-    /// Reads a SET: the function reads its elements, all of them.
+    /// Reads a SET. The function must read all its elements.
     ///
     /// ```
     /// use dumarewhi::Reader;
@@ -305,8 +303,8 @@ impl<'a> Reader<'a> {
         self.list(Tag::SET, Cursor::set, function)
     }
 
-    /// Reads a constructed element with this tag: the function reads the elements that its content octets are,
-    /// all of them. So it reads an EXPLICIT tag, and an IMPLICIT one of a SEQUENCE or SET.
+    /// Reads a constructed element with this tag: an EXPLICIT tag, or a SEQUENCE or SET under an IMPLICIT one. The
+    /// function must read all elements inside it.
     ///
     /// ```
     /// use dumarewhi::{Reader, Tag};
@@ -340,8 +338,8 @@ impl<'a> Reader<'a> {
         })
     }
 
-    /// Gives the next element this tag in place of that of its type: an IMPLICIT tag. [`tagged`](Reader::tagged) reads
-    /// that of a SEQUENCE or SET.
+    /// The next element has this IMPLICIT tag instead of its type's. For a SEQUENCE or SET call
+    /// [`tagged`](Reader::tagged).
     ///
     /// ```
     /// use dumarewhi::{Reader, Tag};
@@ -359,9 +357,8 @@ impl<'a> Reader<'a> {
         self
     }
 
-    /// Reads an element with this tag as one of a universal type, whose tag it replaces: an IMPLICIT tag. The content
-    /// is checked by the rules of that type, which is one that a call of this reader reads.
-    /// [`expect_implicit`](Reader::expect_implicit) gives the value at once.
+    /// Reads an element with this IMPLICIT tag as one of a universal type, and checks its content as that type.
+    /// [`expect_implicit`](Reader::expect_implicit) returns the value at once.
     ///
     /// ```
     /// use dumarewhi::{Reader, Tag};
@@ -415,7 +412,7 @@ impl<'a> Reader<'a> {
         self.optional(tag, |reader| reader.tagged(tag, function))
     }
 
-    /// Reads an ENUMERATED from -2^63 to 2^63-1: an INTEGER but for its tag (X.690 8.4).
+    /// Reads an ENUMERATED from -2^63 to 2^63-1 (X.690 8.4).
     pub fn enumerated(&mut self) -> Result<i64> {
         let tag = self.cursor.implicit_tag().unwrap_or(Tag::ENUMERATED);
         self.attempt(|r| r.expect_implicit(tag).i64())
@@ -436,7 +433,7 @@ impl<'a> Reader<'a> {
         self.text(Tag::IA5_STRING)
     }
 
-    /// Reads a character string of any type that [`Any::as_str`] has.
+    /// Reads a character string of any type of [`Any::as_str`].
     pub fn string(&mut self) -> Result<&'a str> {
         let tag = self.peek_tag()?.unwrap_or(Tag::UTF8_STRING);
         self.text(tag)
@@ -457,7 +454,7 @@ impl<'a> Reader<'a> {
         })
     }
 
-    /// Reads a UTCTime or a GeneralizedTime. Under an implicit tag it is the latter.
+    /// Reads a UTCTime or a GeneralizedTime; under an implicit tag a GeneralizedTime.
     pub fn time(&mut self) -> Result<Time> {
         match self.is_next(Tag::UTC_TIME) {
             true => self.utc_time(),

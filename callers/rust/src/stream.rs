@@ -4,11 +4,11 @@ use crate::error::{ErrorKind, Result};
 use crate::{Error, Tree};
 use alloc::vec::Vec;
 
-/// Takes input in pieces, as from a socket, and gives each element as soon as it is whole.
+/// Takes input in pieces, as from a socket, and returns each element as soon as it is complete.
 ///
-/// [`next_tree`](Buffer::next_tree) and [`next_octets`](Buffer::next_octets) return `Ok(None)` if more input is
-/// needed, and an error only if no more input mends it. Offsets of errors count from the start of their
-/// element. More than 49 indefinite lengths inside one another are an error.
+/// [`next_tree`](Buffer::next_tree) and [`next_octets`](Buffer::next_octets) return `Ok(None)` if more input is needed,
+/// and an error only if more input doesn't help. Offsets of errors count from the start of the element. More than 49
+/// nested indefinite lengths are an error.
 ///
 /// ```
 /// use dumarewhi::{Buffer, Rules};
@@ -39,7 +39,7 @@ pub struct Buffer {
 }
 
 impl Buffer {
-    /// How many octets an element may have, unless [`with_limit`](Buffer::with_limit) changes it: 16 MiB.
+    /// The default limit of an element's octets, 16 MiB. [`with_limit`](Buffer::with_limit) changes it.
     pub const DEFAULT_LIMIT: usize = 1 << 24;
 
     /// An empty buffer of elements by these rules.
@@ -54,8 +54,7 @@ impl Buffer {
         }
     }
 
-    /// The same buffer with another limit of octets for an element. A longer one is an error as soon as its
-    /// header shows it.
+    /// Sets the limit of an element's octets. A longer element is an error as soon as its header shows it.
     ///
     /// ```
     /// use dumarewhi::{Buffer, ErrorKind, Rules};
@@ -79,9 +78,8 @@ impl Buffer {
         self.octets.extend_from_slice(piece);
     }
 
-    /// Reads the next element, if it is whole. An element that breaks a rule inside is an error and is taken
-    /// out too, so the next call goes on after it. A header that breaks a rule stays, as does its error: where
-    /// an element would begin after it can't be known.
+    /// Reads the next element, if it is complete. After an error inside an element the next call continues behind it.
+    /// After an error of a header every call returns that error: the next element can't be found.
     pub fn next_tree(&mut self) -> Result<Option<Tree<'_>>> {
         let rules = self.rules;
         match self.next_octets()? {
@@ -90,8 +88,8 @@ impl Buffer {
         }
     }
 
-    /// Takes the octets of the next element, if it is whole. What is inside it isn't checked: a
-    /// [`Reader`](crate::Reader) or [`check_der`](crate::check_der) does that.
+    /// Takes the octets of the next element, if it is complete. Check its content with a [`Reader`](crate::Reader) or
+    /// [`check_der`](crate::check_der).
     pub fn next_octets(&mut self) -> Result<Option<&[u8]>> {
         if self.pending().len() < self.wanted {
             return Ok(None);
@@ -129,18 +127,18 @@ impl Buffer {
         found
     }
 
-    /// The octets that were fed and aren't taken yet.
+    /// The octets that were fed and not taken yet.
     pub fn pending(&self) -> &[u8] {
         self.octets.get(self.start..).unwrap_or_default()
     }
 
-    /// How many octets were taken so far: where the next element begins in the whole input.
+    /// The number of octets taken so far: the offset of the next element in the whole input.
     pub fn position(&self) -> u64 {
         self.dropped.saturating_add(self.start as u64)
     }
 
-    /// How many more octets the next element needs at least, as far as the input shows. If an element may be
-    /// whole already, 0.
+    /// The least number of octets that the next element still needs, as far as the input shows. 0 if it may be
+    /// complete.
     ///
     /// ```
     /// use dumarewhi::{Buffer, Rules};
@@ -155,7 +153,7 @@ impl Buffer {
         self.wanted.saturating_sub(self.pending().len())
     }
 
-    /// At the end of the input: an error if octets of an element are left.
+    /// Call this at the end of the input: an error if an element is cut short.
     pub fn finish(&self) -> Result<()> {
         let pending = self.pending();
         if pending.is_empty() {

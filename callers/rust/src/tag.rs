@@ -17,7 +17,7 @@ numbered! {
     Private = 3,
 }
 
-/// A tag: its class and its number. Whether an element is constructed is no part of it.
+/// A tag: class and number. The constructed bit isn't part of it.
 ///
 /// ```
 /// use dumarewhi::{Class, Tag};
@@ -121,7 +121,7 @@ impl Tag {
     }
 }
 
-/// As ASN.1 writes it: `INTEGER`, `[0]`, `[APPLICATION 3]`, `[PRIVATE 1]`, `[UNIVERSAL 15]`.
+/// As in ASN.1: `INTEGER`, `[0]`, `[APPLICATION 3]`, `[PRIVATE 1]`, `[UNIVERSAL 15]`.
 impl fmt::Display for Tag {
     fn fmt(&self, f: &mut fmt::Formatter<'_>) -> fmt::Result {
         let text = |text: &mut [u8]| Some(ffi::tag_text(self.class as u8, self.number, text));

@@ -10,7 +10,7 @@ use std::time::{Duration, SystemTime};
 
 /// A UTCTime or a GeneralizedTime.
 ///
-/// Times sort by their moment, where a local one counts as UTC. Two of the same moment sort by their fields.
+/// Times sort by moment, then by fields. A local time counts as UTC.
 ///
 /// ```
 /// use dumarewhi::{Any, Zone};
@@ -24,7 +24,7 @@ use std::time::{Duration, SystemTime};
 /// ```
 #[derive(Clone, Copy, Debug, PartialEq, Eq, Hash)]
 pub struct Time {
-    /// The year. Of a UTCTime 1950 to 2049 (RFC 5280 4.1.2.5.1).
+    /// The year. A UTCTime has 1950 to 2049 (RFC 5280 4.1.2.5.1).
     pub year: u32,
     /// The month, 1 to 12.
     pub month: u8,
@@ -53,7 +53,7 @@ pub enum Zone {
     Offset {
         /// Whole hours.
         hours: i8,
-        /// And minutes.
+        /// Minutes.
         minutes: i8,
     },
 }
@@ -79,8 +79,8 @@ const DAYS_OF_400_YEARS: i64 = 146_097;
 const DAYS_TO_1970: i64 = 865_565;
 
 impl Time {
-    /// The seconds from 1970-01-01T00:00:00Z to it, without leap seconds and its fraction. A local time counts as UTC,
-    /// and a day that its month doesn't have as one of the next month.
+    /// Seconds since 1970-01-01T00:00:00Z, without leap seconds or the fraction. A local time counts as UTC, and a day
+    /// that its month doesn't have as one of the next month.
     ///
     /// ```
     /// use dumarewhi::Any;
@@ -159,7 +159,7 @@ impl Ord for Time {
 
 forward!(PartialOrd for Time);
 
-/// An error if the time is a local one, if its month doesn't have its day, or if the system has no such time.
+/// An error if the time is local, its month doesn't have its day, or the system has no such time.
 ///
 /// ```
 /// use dumarewhi::Any;
@@ -274,7 +274,7 @@ impl From<Time> for TimeFields {
     }
 }
 
-/// As RFC 3339 writes it. A fraction has nine digits.
+/// As in RFC 3339. A fraction has nine digits.
 impl fmt::Display for Time {
     fn fmt(&self, f: &mut fmt::Formatter<'_>) -> fmt::Result {
         let Time {

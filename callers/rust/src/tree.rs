@@ -10,7 +10,7 @@ use core::ops::Range;
 
 /// An element and those inside it, over the input that it was read from.
 ///
-/// The tree is a list of offsets, with 40 octets for each element. An element has two octets at least.
+/// The tree takes 40 octets for each element. An element has at least two octets.
 ///
 /// ```
 /// use dumarewhi::{Tag, Tree};
@@ -27,18 +27,18 @@ use core::ops::Range;
 pub struct Tree<'a> {
     input: &'a [u8],
     elements: Vec<Element>,
-    /// Where the input begins in the outermost one.
+    /// Offset of the input in the outermost one.
     base: usize,
     rules: Rules,
 }
 
 impl<'a> Tree<'a> {
-    /// Reads the one element that the input is in DER.
+    /// Reads an input that is one element in DER.
     pub fn parse_der(input: &'a [u8]) -> Result<Tree<'a>> {
         whole(input, Rules::DER.parse(input)?)
     }
 
-    /// Reads the one element that the input is in BER, with lengths that are definite or indefinite.
+    /// Reads an input that is one element in BER.
     pub fn parse_ber(input: &'a [u8]) -> Result<Tree<'a>> {
         whole(input, Rules::BER.parse(input)?)
     }
@@ -56,7 +56,7 @@ impl<'a> Tree<'a> {
         }
     }
 
-    /// How many elements there are, one at least.
+    /// The number of elements, at least one.
     #[allow(clippy::len_without_is_empty)]
     pub fn len(&self) -> usize {
         self.elements.len()
@@ -87,7 +87,7 @@ impl fmt::Debug for Tree<'_> {
 }
 
 impl Rules {
-    /// Reads the first element. Returns what follows it, and its tree.
+    /// Reads the first element. Returns the rest of the input, and the tree.
     ///
     /// ```
     /// use dumarewhi::Rules;
@@ -100,7 +100,7 @@ impl Rules {
         self.parse_with(input, Vec::new())
     }
 
-    /// Reads as [`parse`](Rules::parse), in the memory of a list that is no longer needed.
+    /// Reads as [`parse`](Rules::parse), and reuses the memory of a list.
     ///
     /// ```
     /// use dumarewhi::Rules;
@@ -147,7 +147,7 @@ fn likely_elements(input: &[u8]) -> usize {
 
 /// An element of a tree.
 ///
-/// Its `as_` calls give the value of a type, if the element has the tag of that type.
+/// Its `as_` calls return a value if the element has the tag of that type.
 ///
 /// ```
 /// use dumarewhi::Tree;
@@ -176,12 +176,12 @@ impl<'t, 'a> Node<'t, 'a> {
         self.tree.elements.get(self.index).copied().unwrap_or_default()
     }
 
-    /// The element by itself, which outlives the tree.
+    /// The element without its tree, which it outlives.
     pub fn any(&self) -> Any<'a> {
         Any::new(self.tree.input, self.element(), self.tree.base, self.tree.rules)
     }
 
-    /// The elements that the content of a constructed element is (X.690 8.1.4). Of a primitive one none: see
+    /// The elements directly inside a constructed element (X.690 8.1.4). A primitive one has none: see
     /// [`parse_content`](Node::parse_content).
     pub fn children(&self) -> Children<'t, 'a> {
         Children {
@@ -203,8 +203,8 @@ impl<'t, 'a> Node<'t, 'a> {
         first..first.saturating_add(self.element().inside)
     }
 
-    /// Reads the one element that the content octets are, by the same rules: that of an OCTET STRING that holds an
-    /// encoding, or of an explicit tag. Offsets are those of the outermost input.
+    /// Reads content octets that are one element, by the same rules, such as an encoding inside an OCTET STRING.
+    /// Offsets count in the outermost input.
     pub fn parse_content(&self) -> Result<Tree<'a>> {
         let any = self.any();
         let (content, base) = (any.content(), any.content_offset());

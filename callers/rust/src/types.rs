@@ -8,7 +8,7 @@ use crate::{
 #[cfg(feature = "alloc")]
 use alloc::{string::String, vec::Vec};
 
-/// A value that a [`Reader`] reads, as [`Reader::value`] does. A type of the caller's own is read by its fields.
+/// A type that [`Reader::value`] reads. Implement it for your own types, field by field.
 ///
 /// ```
 /// use dumarewhi::{Decode, Reader, Result};
@@ -44,18 +44,18 @@ pub trait Decode<'a>: Sized {
     /// Reads the elements of the value.
     fn decode(r: &mut Reader<'a>) -> Result<Self>;
 
-    /// Whether a value may begin with an element that has this tag: so it is known whether an OPTIONAL one is there.
-    /// Unless a type says otherwise, it is a SEQUENCE.
+    /// Whether a value may begin with this tag: it tells whether an OPTIONAL one is present. By default the tag is
+    /// SEQUENCE.
     fn begins_with(tag: Tag) -> bool {
         tag == Tag::SEQUENCE
     }
 
-    /// Reads the one value that the input is in DER.
+    /// Reads an input that is one value in DER.
     fn from_der(input: &'a [u8]) -> Result<Self> {
         read_whole(Reader::new(input))
     }
 
-    /// Reads the one value that the input is in BER.
+    /// Reads an input that is one value in BER.
     fn from_ber(input: &'a [u8]) -> Result<Self> {
         read_whole(Reader::with_rules(input, Rules::BER))
     }
@@ -67,7 +67,7 @@ fn read_whole<'a, T: Decode<'a>>(mut reader: Reader<'a>) -> Result<T> {
     Ok(value)
 }
 
-/// A value that a [`Writer`] writes, as [`Writer::value`] does. A type of the caller's own is written by its fields.
+/// A type that [`Writer::value`] writes. Implement it for your own types, field by field.
 ///
 /// ```
 /// use dumarewhi::{Encode, Result, Writer};
@@ -100,7 +100,7 @@ pub trait Encode {
     /// Writes the elements of the value.
     fn encode(&self, w: &mut Writer<'_>) -> Result<()>;
 
-    /// The octets of the value.
+    /// The encoding of the value.
     #[cfg(feature = "alloc")]
     fn to_der(&self) -> Result<Vec<u8>> {
         to_vec(|w| self.encode(w))
@@ -125,7 +125,7 @@ impl Writer<'_> {
         value.encode(self)
     }
 
-    /// Writes a value, unless it is its default (X.690 11.5).
+    /// Writes a value unless it equals its default (X.690 11.5).
     ///
     /// ```
     /// use dumarewhi::to_vec;
@@ -187,17 +187,17 @@ macro_rules! types {
 types! {
     /// A BOOLEAN.
     bool: BOOLEAN, |r| r.boolean(), |w, it| w.boolean(*it);
-    /// An INTEGER that the type has.
+    /// An INTEGER.
     u16: INTEGER, |r| number(r), |w, it| w.u64((*it).into());
-    /// An INTEGER that the type has.
+    /// An INTEGER.
     u32: INTEGER, |r| number(r), |w, it| w.u64((*it).into());
-    /// An INTEGER that the type has.
+    /// An INTEGER.
     u64: INTEGER, |r| r.u64(), |w, it| w.u64(*it);
-    /// An INTEGER that the type has.
+    /// An INTEGER.
     i16: INTEGER, |r| number(r), |w, it| w.i64((*it).into());
-    /// An INTEGER that the type has.
+    /// An INTEGER.
     i32: INTEGER, |r| number(r), |w, it| w.i64((*it).into());
-    /// An INTEGER that the type has.
+    /// An INTEGER.
     i64: INTEGER, |r| r.i64(), |w, it| w.i64(*it);
     /// An INTEGER, as [`Writer::integer`].
     Integer<'a>: INTEGER, |r| r.integer(), |w, it| w.integer(*it)?;
@@ -252,7 +252,7 @@ impl<'a> Decode<'a> for Time {
     }
 }
 
-/// A UTCTime of the years 1950 to 2049 without a fraction, or else a GeneralizedTime (RFC 5280 4.1.2.5).
+/// A UTCTime for the years 1950 to 2049 without a fraction, else a GeneralizedTime (RFC 5280 4.1.2.5).
 impl Encode for Time {
     fn encode(&self, w: &mut Writer<'_>) -> Result<()> {
         match (self.year, self.nanosecond) {
@@ -274,14 +274,13 @@ impl<'a> Decode<'a> for Any<'a> {
 }
 
 encodes! {
-    /// An element that was read by DER, as it is. One that was read by BER stays in BER: [`write_der`] writes it as
-    /// DER.
+    /// The element's octets as they were read. One in BER stays in BER: [`write_der`] converts it.
     ///
     /// [`write_der`]: crate::write_der
     Any<'a>: |w, it| w.elements(it.octets())
 }
 
-/// The value, or nothing: an OPTIONAL field.
+/// An OPTIONAL field.
 impl<'a, T: Decode<'a>> Decode<'a> for Option<T> {
     fn decode(r: &mut Reader<'a>) -> Result<Option<T>> {
         match r.has(T::begins_with)? {
@@ -295,7 +294,7 @@ impl<'a, T: Decode<'a>> Decode<'a> for Option<T> {
     }
 }
 
-/// The value, or nothing: an OPTIONAL field.
+/// An OPTIONAL field.
 impl<T: Encode> Encode for Option<T> {
     fn encode(&self, w: &mut Writer<'_>) -> Result<()> {
         self.as_ref().map_or(Ok(()), |value| value.encode(w))

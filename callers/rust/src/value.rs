@@ -4,9 +4,7 @@ use crate::ffi::{self, BitsFields, Fields, Octets};
 use core::cmp::Ordering;
 use core::iter::FusedIterator;
 
-/// An INTEGER or an ENUMERATED: its content octets, in two's complement and the fewest (X.690 8.3). It sorts by its
-/// number. Of one that a [`Reader`](crate::Reader) read by BER the octets may be none, or more than the fewest: then its
-/// place in the order is unspecified.
+/// An INTEGER or an ENUMERATED of any size: its content octets, in two's complement (X.690 8.3). It sorts by number.
 ///
 /// ```
 /// use dumarewhi::{Any, Integer};
@@ -21,7 +19,7 @@ use core::iter::FusedIterator;
 pub struct Integer<'a>(&'a [u8]);
 
 impl<'a> Integer<'a> {
-    /// The number with these content octets. An error unless they are the fewest for it (X.690 8.3.2).
+    /// A number from content octets. An error if they are padded (X.690 8.3.2).
     pub fn from_content(content: &'a [u8]) -> Result<Integer<'a>, Reason> {
         match Fields::new(&mut []).put_integer(content) {
             0 => Ok(Integer(content)),
@@ -118,8 +116,8 @@ pub struct BitString<'a> {
 }
 
 impl<'a> BitString<'a> {
-    /// The bits of these octets, of whose last some don't count, 0 to 7. An error if there are more, or if there is no
-    /// octet that has them (X.690 8.6.2).
+    /// A BIT STRING from octets with 0 to 7 unused bits at the end. An error if there are more, or no octet has them
+    /// (X.690 8.6.2).
     ///
     /// ```
     /// use dumarewhi::BitString;
@@ -135,7 +133,7 @@ impl<'a> BitString<'a> {
         }
     }
 
-    /// How many of the last octet's bits don't count, 0 to 7.
+    /// The number of unused bits in the last octet, 0 to 7.
     pub fn unused_bits(self) -> u8 {
         self.unused
     }
@@ -153,7 +151,7 @@ impl<'a> BitString<'a> {
         }
     }
 
-    /// How many bits there are.
+    /// The number of bits.
     pub fn len(self) -> usize {
         let bits = self.bytes.len().saturating_mul(8);
         bits.saturating_sub(self.unused.into())
@@ -164,7 +162,7 @@ impl<'a> BitString<'a> {
         self.len() == 0
     }
 
-    /// A bit. Bit 0 is the highest one of the first octet (X.680 22.2).
+    /// One bit. Bit 0 is the highest of the first octet (X.680 22.2).
     pub fn bit(self, index: usize) -> Option<bool> {
         if index >= self.len() {
             return None;
@@ -173,7 +171,7 @@ impl<'a> BitString<'a> {
         Some(octet.wrapping_shl((index % 8) as u32) & 0x80 != 0)
     }
 
-    /// The bits, the first ones first.
+    /// The bits in order.
     ///
     /// ```
     /// use dumarewhi::BitString;

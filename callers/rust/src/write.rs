@@ -1,4 +1,4 @@
-//! Elements as DER writes them.
+//! Converting BER to DER.
 use crate::element::found;
 use crate::error::Result;
 use crate::ffi;
@@ -7,13 +7,13 @@ use crate::{Error, ErrorKind};
 #[cfg(feature = "alloc")]
 use alloc::vec::Vec;
 
-/// Writes all elements of an input in BER to a buffer, as DER writes them. Returns how many octets they have. If
-/// that is more than the buffer has, the buffer's contents are unspecified: call again with as many.
+/// Converts all elements of an input from BER to DER, into a buffer. Returns the size of the DER. If the buffer is
+/// smaller, its contents are unspecified: call again with that size.
 ///
-/// Lengths are in the fewest octets (X.690 10.1), strings primitive (10.2), BOOLEANs 00 or ff (11.1), and unused bits 0
-/// (11.2.1), also inside elements of other classes than universal. The order of a SET OF, default values and the types
-/// of elements of other classes aren't known here, so they stay as they are. Another value that DER doesn't have, as a
-/// time without seconds, is an error. Elements may be nested 101 deep.
+/// Lengths become minimal (X.690 10.1), strings primitive (10.2), BOOLEANs 00 or ff (11.1), and unused bits 0 (11.2.1),
+/// also inside elements of other classes. The order of a SET OF, default values and types under other tags depend on
+/// the ASN.1 and stay as they are. Any other value that isn't DER, such as a time without seconds, is an error.
+/// Elements may be nested 101 deep.
 ///
 /// ```
 /// use dumarewhi::write_der;
@@ -33,7 +33,7 @@ pub fn write_der(input: &[u8], out: &mut [u8]) -> Result<usize> {
     found(outcome, input).map(|found| found.length)
 }
 
-/// Writes elements as [`write_der`] to a vector.
+/// Converts elements as [`write_der`] does, into a vector.
 ///
 /// ```
 /// use dumarewhi::{check_der, to_der};

@@ -5,11 +5,10 @@ use crate::{Class, Error, Integer, ObjectIdentifier, Tag, Time};
 #[cfg(feature = "alloc")]
 use {crate::write::zeros, alloc::vec::Vec};
 
-/// Writes DER, element after element, into a buffer.
+/// Writes DER into a buffer, element after element.
 ///
-/// An element is written behind those before it if the buffer has room for it, and its octets are counted in any
-/// case: only [`finish`](Writer::finish) returns whether all have room. A writer allocates nothing. [`to_vec`] makes a
-/// vector of what is written.
+/// Elements that don't fit are only counted, and [`finish`](Writer::finish) returns whether all fit. A writer never
+/// allocates; [`to_vec`] writes to a vector.
 ///
 /// ```
 /// use dumarewhi::{Result, Tag, Writer};
@@ -33,7 +32,7 @@ use {crate::write::zeros, alloc::vec::Vec};
 /// # Ok::<(), dumarewhi::Error>(())
 /// ```
 ///
-/// A call that takes a function returns what that returns. So one that may fail is ended by `?`, inside and outside:
+/// A call that takes a function returns its result. If the function may fail, use `?` inside and outside:
 ///
 /// ```
 /// use dumarewhi::{to_vec, Reason};
@@ -58,16 +57,15 @@ macro_rules! values {
 }
 
 values! {
-    /// Writes elements as they are: octets of DER that were written before. They aren't checked.
+    /// Writes elements that are encoded already. They aren't checked.
     elements(octets: &[u8]) = put_elements(octets);
     /// Writes a BOOLEAN.
     boolean(value: bool) = put_bool(value.into());
-    /// Writes an INTEGER that isn't negative.
+    /// Writes a non-negative INTEGER.
     u64(value: u64) = put_u64(value);
     /// Writes an INTEGER.
     i64(value: i64) = put_i64(value);
-    /// Writes an INTEGER of any size that isn't negative, with these octets, the highest first. Leading zeros are left
-    /// out.
+    /// Writes a non-negative INTEGER of any size from big-endian octets. Leading zeros are left out.
     ///
     /// ```
     /// use dumarewhi::to_vec;
@@ -77,13 +75,13 @@ values! {
     /// # Ok::<(), dumarewhi::Error>(())
     /// ```
     magnitude(octets: &[u8]) = put_magnitude(octets);
-    /// Writes an ENUMERATED that isn't negative.
+    /// Writes a non-negative ENUMERATED.
     enumerated(value: u64) = put_enumerated(value);
     /// Writes an ENUMERATED that may be negative.
     enumerated_i64(value: i64) = put_enumerated_i64(value);
     /// Writes a NULL.
     null() = put_null();
-    /// Writes an OBJECT IDENTIFIER, with the octets that it has.
+    /// Writes an OBJECT IDENTIFIER with its own octets.
     ///
     /// ```
     /// use dumarewhi::{oid, to_vec};
@@ -95,7 +93,7 @@ values! {
     identifier(identifier: ObjectIdentifier<'_>) = put_oid(identifier.as_bytes());
     /// Writes an OCTET STRING.
     octet_string(octets: &[u8]) = put_octets(octets);
-    /// Writes a BIT STRING of octets, whose last bits aren't used, so many, at most seven. They are written as 0.
+    /// Writes a BIT STRING with at most seven unused bits at the end, which are written as 0.
     bit_string(unused: u8, octets: &[u8]) = put_bits(unused, octets);
 }
 
@@ -107,13 +105,13 @@ impl<'b> Writer<'b> {
         }
     }
 
-    /// How many octets there are, room or not.
+    /// The number of octets so far, whether they fit or not.
     pub fn offset(&self) -> usize {
         self.fields.count()
     }
 
-    /// How many octets there are, with which the buffer begins. What is behind them stays as it was. An error if the
-    /// buffer has no room for them, with how many are needed.
+    /// Returns the number of octets written. The rest of the buffer stays as it was. If the buffer is too small, the
+    /// error has the size that is needed.
     ///
     /// ```
     /// use dumarewhi::{ErrorKind, Writer};
@@ -143,20 +141,20 @@ impl<'b> Writer<'b> {
         }
     }
 
-    /// Writes a SEQUENCE of what the function writes.
+    /// Writes a SEQUENCE with the elements that the function writes.
     pub fn sequence<T>(&mut self, function: impl FnOnce(&mut Writer<'b>) -> T) -> T {
         let mark = self.fields.open_sequence();
         self.inside(mark, function)
     }
 
-    /// Writes a SET of what the function writes, in that order. [`set_of`](Writer::set_of) sorts elements.
+    /// Writes a SET with the elements that the function writes, in that order. [`set_of`](Writer::set_of) sorts them.
     pub fn set<T>(&mut self, function: impl FnOnce(&mut Writer<'b>) -> T) -> T {
         let mark = self.fields.open_set();
         self.inside(mark, function)
     }
 
-    /// Writes a SET OF the elements that the function writes, and sorts them in the buffer as DER demands (X.690 11.6).
-    /// For n of them that takes up to n²/2 comparisons.
+    /// Writes a SET OF the elements that the function writes, sorted in the buffer (X.690 11.6). For n elements that
+    /// takes up to n²/2 comparisons.
     ///
     /// ```
     /// use dumarewhi::to_vec;
@@ -179,8 +177,8 @@ impl<'b> Writer<'b> {
         value
     }
 
-    /// Writes a constructed element with this tag around what the function writes: an EXPLICIT tag, or an IMPLICIT one
-    /// of a SEQUENCE or SET.
+    /// Writes a constructed element with this tag around what the function writes: an EXPLICIT tag, or a SEQUENCE or
+    /// SET under an IMPLICIT one.
     ///
     /// ```
     /// use dumarewhi::{to_vec, Tag};
@@ -204,7 +202,7 @@ impl<'b> Writer<'b> {
         self.inside(mark, function)
     }
 
-    /// Writes an OCTET STRING whose octets are the elements that the function writes.
+    /// Writes an OCTET STRING that contains the elements that the function writes.
     pub fn octet_string_of<T>(&mut self, function: impl FnOnce(&mut Writer<'b>) -> T) -> T {
         let mark = self.fields.open_octet_string();
         self.inside(mark, function)
@@ -216,9 +214,9 @@ impl<'b> Writer<'b> {
         value
     }
 
-    /// Writes the next element, which has to be primitive, with this tag in place of that of its type: an IMPLICIT tag.
-    /// [`tagged`](Writer::tagged) writes that of a SEQUENCE or SET. After an error the tag is still for the next element.
-    /// What isn't primitive drops it, and so do [`elements`](Writer::elements).
+    /// The next primitive element gets this IMPLICIT tag instead of its type's. For a SEQUENCE or SET call
+    /// [`tagged`](Writer::tagged). After an error the tag is still pending. A constructed element and
+    /// [`elements`](Writer::elements) drop it.
     ///
     /// ```
     /// use dumarewhi::{to_vec, Tag};
@@ -233,15 +231,14 @@ impl<'b> Writer<'b> {
         self
     }
 
-    /// Writes an INTEGER of any size. An error if its octets aren't the fewest (X.690 8.3.2), as of one that was read
-    /// by BER.
+    /// Writes an INTEGER of any size. An error if its octets are padded (X.690 8.3.2).
     pub fn integer(&mut self, value: Integer<'_>) -> Result<()> {
         let put = self.fields.put_integer(value.as_bytes());
         self.put(put)
     }
 
-    /// Writes an OBJECT IDENTIFIER with these arcs. An error if there are fewer than two, or the first two can't be
-    /// (X.690 8.19.4).
+    /// Writes an OBJECT IDENTIFIER with these arcs. An error if there are fewer than two, or the first two aren't
+    /// allowed (X.690 8.19.4).
     ///
     /// ```
     /// use dumarewhi::to_vec;
@@ -295,8 +292,8 @@ impl<'b> Writer<'b> {
         Ok(())
     }
 
-    /// Writes a character string of any type that [`Any::as_str`](crate::Any::as_str) has. An error if a character
-    /// isn't in its set.
+    /// Writes a character string of any type of [`Any::as_str`](crate::Any::as_str). An error if a character isn't in
+    /// its set.
     pub fn string(&mut self, tag: Tag, text: &str) -> Result<()> {
         if !tag.is_text() {
             return Err(self.error(ErrorKind::Other("the tag is of no type of text")));
@@ -305,7 +302,7 @@ impl<'b> Writer<'b> {
         self.put(put)
     }
 
-    /// Writes a UTCTime. An error unless the zone is UTC, the year 1950 to 2049, and there is no fraction.
+    /// Writes a UTCTime. An error unless the zone is UTC and the year 1950 to 2049, without a fraction.
     pub fn utc_time(&mut self, time: Time) -> Result<()> {
         self.time(Tag::UTC_TIME, time)
     }
@@ -321,8 +318,7 @@ impl<'b> Writer<'b> {
     }
 }
 
-/// The octets that the function writes. It is called twice: to count them, and to write them to a vector that is
-/// allocated once.
+/// Writes to a vector that is allocated once. The function is called twice: to count, and to write.
 ///
 /// ```
 /// use dumarewhi::{check_der, to_vec};

@@ -1,5 +1,4 @@
-//! Certificates, lists of revoked ones (RFC 5280), requests (RFC 2986) and keys (RFC 5958, RFC 5915, RFC 8017), by
-//! calls that are proved.
+//! Certificates and CRLs (RFC 5280), requests (RFC 2986) and keys (RFC 5958, RFC 5915, RFC 8017).
 //!
 //! ```no_run
 //! use dumarewhi::x509::{Certificate, GeneralName, Value};
@@ -16,8 +15,8 @@
 //! # Ok::<(), std::io::Error>(())
 //! ```
 //!
-//! Nothing is copied: names, keys and values are parts of the input. What a certificate is for isn't decided here: no
-//! signature is verified, and no path. Inputs are equal if their octets are.
+//! Names, keys and values are parts of the input, not copies. Signatures and paths aren't verified. Certificates and
+//! the like compare by their octets.
 #[macro_use]
 mod parts;
 mod extension;
@@ -26,6 +25,7 @@ mod key;
 mod list;
 mod name;
 mod request;
+mod rule;
 mod values;
 
 pub use crate::Error;
@@ -35,20 +35,20 @@ pub use key::*;
 pub use list::*;
 pub use name::*;
 pub use request::*;
+pub use rule::BrokenRule;
 pub use values::*;
 
 use crate::ffi::{self, BitsFields, MomentFields, Octets};
 use crate::{BitString, Integer, ObjectIdentifier, Time};
 
 parts! {
-    /// A certificate (RFC 5280 4.1). Of parameters and attributes' values, which may be of any type, the header is
-    /// read.
+    /// A certificate (RFC 5280 4.1). The content of values of any type (parameters, attributes) isn't checked.
     Certificate: CertificateFields as dm_certificate by read_certificate;
     /// The encoding of tbsCertificate: the octets that are signed.
     tbs: Octets<'a> as &'a [u8],
-    /// The number that the issuer gave it.
+    /// The serial number.
     serial_number: Octets<'a> as Integer<'a>,
-    /// The algorithm of the signature, as it is signed with the rest.
+    /// The algorithm of the signature, from the signed part.
     signature: AlgorithmFields<'a> as Algorithm<'a>,
     /// Who signed it.
     issuer: Octets<'a> as Name<'a>,
@@ -60,15 +60,15 @@ parts! {
     issuer_unique_id: BitsFields<'a> as Option<BitString<'a>>,
     /// subjectUniqueID, of versions 2 and 3.
     subject_unique_id: BitsFields<'a> as Option<BitString<'a>>,
-    /// The extensions. There are none if it has no such field.
+    /// The extensions, if any.
     extensions: Octets<'a> as Extensions<'a>,
     /// The algorithm of the signature.
     signature_algorithm: AlgorithmFields<'a> as Algorithm<'a>,
     /// The signature. It isn't verified.
     signature_value: BitsFields<'a> as BitString<'a>,
-    /// The first moment that it is valid at.
+    /// Start of validity.
     not_before: MomentFields as Time,
-    /// The last moment that it is valid at.
+    /// End of validity, inclusive.
     not_after: MomentFields as Time,
     /// The version, 1 to 3.
     version: u32 as u32,
@@ -76,10 +76,25 @@ parts! {
 }
 
 impl<'a> Certificate<'a> {
-    /// Reads one that also keeps rules of the text of RFC 5280: those of [`Reason`](crate::Reason) with numbers from
-    /// 128 to 139. The first broken one is an error at offset 0. Each extension is compared with all that follow it.
+    /// Reads a certificate and also checks rules of RFC 5280's text: those of [`Reason`](crate::Reason) with numbers
+    /// 128 to 139. The first broken rule is an error at offset 0.
     pub fn from_strict_der(input: &'a [u8]) -> Result<Certificate<'a>, Error> {
         Ok(Certificate(ffi::read_strict_certificate(input)?, input))
+    }
+
+    /// All rules of RFC 5280's text, and of RFCs beside it, that the certificate breaks: first those with MUST, then
+    /// those with SHOULD. [`from_strict_der`](Self::from_strict_der) knows fewer rules.
+    ///
+    /// ```no_run
+    /// # use dumarewhi::x509::Certificate;
+    /// # let octets = std::fs::read("certificate.der")?;
+    /// for rule in Certificate::from_der(&octets)?.broken_rules().filter(|rule| rule.is_must()) {
+    ///     println!("{rule}");
+    /// }
+    /// # Ok::<(), std::io::Error>(())
+    /// ```
+    pub fn broken_rules(&self) -> impl Iterator<Item = BrokenRule> {
+        rule::broken_rules(false, self.as_bytes())
     }
 
     /// The subject's key.
@@ -102,7 +117,7 @@ parts! {
 }
 
 impl<'a> Algorithm<'a> {
-    /// The encoding of its parameters, one element of any type. `None` if it has none.
+    /// The encoding of its parameters, one element of any type.
     pub fn parameters(&self) -> Option<&'a [u8]> {
         Some(self.0.parameters.get()).filter(|octets| !octets.is_empty())
     }
@@ -123,12 +138,12 @@ impl<'a> PublicKey<'a> {
         }
     }
 
-    /// What it is a key of.
+    /// The key's algorithm.
     pub fn algorithm(&self) -> Algorithm<'a> {
         self.algorithm
     }
 
-    /// The key, in the form of its algorithm.
+    /// The key as its algorithm encodes it.
     pub fn bits(&self) -> BitString<'a> {
         self.bits
     }

@@ -93,6 +93,43 @@ fn snmp_fails_where_the_stream_is_cut() {
     prints("snmp", &[REQUEST, &REQUEST[..20]].concat(), &PRINTED, false);
 }
 
+/// `[2]` in place of the INTEGER that the version is.
+#[test]
+fn snmp_refuses_a_version_of_another_class() {
+    let mut input = REQUEST.to_vec();
+    input[2] = 0x82;
+    if let Some(output) = run("snmp", &input) {
+        let text = String::from_utf8(output.stdout).unwrap();
+        let refused = "refused: unexpected tag (expected INTEGER, actual [2]) at offset 2\n";
+        assert_eq!((text.as_str(), output.status.success()), (refused, true));
+    }
+    for name in ["snmp_reply", "snmp_types"] {
+        if let Some(output) = run(name, &input) {
+            let told = String::from_utf8_lossy(&output.stderr);
+            assert!(!output.status.success() && output.stdout.is_empty(), "{name}");
+            assert!(told.contains("UnexpectedTag"), "{name}: {told}");
+        }
+    }
+}
+
+/// A newline, and a mark that turns the direction of a text (U+202E), are escaped.
+#[test]
+fn texts_are_escaped() {
+    let hostile = "a\n\u{202e}b".as_bytes();
+    let mut input = REQUEST.to_vec();
+    input[7..13].copy_from_slice(hostile);
+    let printed = PRINTED[0].replace("public", r"a\n\u{202e}b");
+    prints("snmp", &input, &[&printed, PRINTED[1]], true);
+    let printed = [
+        r#"version 1, community "a\n\u{202e}b""#,
+        "[0] 1902651985, status 0",
+        "1.3.6.1.2.1.1.1.0 = Unspecified",
+    ];
+    prints("snmp_types", &input, &printed, true);
+    let input = [&[0x0c, 6], hostile].concat();
+    prints("tree", &input, &[r#"    0 UTF8String "a\n\u{202e}b""#], true);
+}
+
 #[test]
 fn tree_prints_elements() {
     let input = [

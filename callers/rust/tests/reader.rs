@@ -94,6 +94,40 @@ fn input_that_is_cut_is_incomplete() {
     }
 }
 
+/// X.690 8.3.1, 8.3.2 and 8.4, by either rules: a number has octets, and the fewest.
+#[test]
+fn needless_octets() {
+    for rules in [Rules::BER, Rules::DER] {
+        for (content, reason) in [
+            (&[][..], Reason::INTEGER_EMPTY),
+            (&[0, 1], Reason::INTEGER_LEADING_ZEROES),
+            (&[0, 0x7f], Reason::INTEGER_LEADING_ZEROES),
+            (&[255, 0x80], Reason::INTEGER_LEADING_FF),
+            (&[255, 255], Reason::INTEGER_LEADING_FF),
+        ] {
+            let error = Error::new(ErrorKind::Malformed(reason), 0);
+            let element = |octet| [&[octet, content.len() as u8], content].concat();
+            let (integer, enumerated, implicit) = (element(2), element(10), element(0x83));
+            let read = |input| Reader::with_rules(input, rules);
+            assert_eq!(read(&integer).integer(), Err(error), "{content:?}");
+            assert_eq!(read(&integer).u64(), Err(error));
+            assert_eq!(read(&integer).i64(), Err(error));
+            assert_eq!(read(&integer).value::<u16>(), Err(error));
+            assert_eq!(read(&enumerated).enumerated(), Err(error));
+            let tag = Tag::context(3);
+            assert_eq!(read(&implicit).expect_implicit(tag).integer(), Err(error));
+            assert_eq!(read(&implicit).expect_implicit(tag).enumerated(), Err(error));
+            assert_eq!(read(&implicit).implicit(tag, Tag::ENUMERATED).err(), Some(error));
+        }
+        let fewest = Reader::with_rules(&[2, 2, 0, 0x80], rules).integer();
+        assert_eq!(fewest.unwrap().as_bytes(), [0, 0x80]);
+        assert_eq!(
+            Reader::with_rules(&[10, 2, 255, 0x7f], rules).enumerated(),
+            Ok(-129)
+        );
+    }
+}
+
 /// X.690 8.6.2, by either rules: at most seven bits are unused, and none of no octet.
 #[test]
 fn unused_bits() {

@@ -1,6 +1,6 @@
 //! Fields: the rows of the library's tests of a cursor, and beside a tree.
 #![cfg(feature = "std")]
-use dumarewhi::{Any, Class, Error, ErrorKind, Node, Reader, Result, Rules, Tag, Time, Tree, Zone};
+use dumarewhi::{Any, Class, Error, ErrorKind, Node, Reader, Reason, Result, Rules, Tag, Time, Tree, Zone};
 
 fn spaced(octets: &[u8]) -> String {
     let pairs: Vec<_> = octets.iter().map(|octet| format!("{octet:02x}")).collect();
@@ -81,7 +81,12 @@ fn rows() {
         let pairs = input.split_whitespace();
         let octets: Vec<_> = pairs.map(|pair| u8::from_str_radix(pair, 16).unwrap()).collect();
         let mut reader = Reader::with_rules(&octets, rules);
+        // Of the rows of a number by BER these two have needless octets, which der-parser takes (X.690 8.3.2).
+        let needless = matches!(octets[..], [2, 2, 0, 0x7f] | [2, 6, 0, 0, ..]) && !rules.is_der();
         match read(call, &mut reader) {
+            Some(Err(error)) if needless => {
+                assert_eq!(error.reason(), Some(Reason::INTEGER_LEADING_ZEROES));
+            }
             Some(Ok(found)) => {
                 assert_eq!(found, expected, "{call} {input}");
                 assert_eq!((reader.offset(), reader.is_finished()), (octets.len(), true));

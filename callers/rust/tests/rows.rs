@@ -123,7 +123,7 @@ const ROWS: &[Row] = &[
     row("8.20", "0d 04 c2 7b 03 02", O(1, 6), O(1, 6)),
     row("8.20.2", "0d 00", E("an identifier has no octets", 0), E("an identifier has no octets", 0)),
     row("8.23", "0c 02 c3 a9", O(1, 4), O(1, 4)),
-    row("8.23.10", "0c 01 ff", E("a UTF8String isn't UTF-8", 0), E("a UTF8String isn't UTF-8", 0)),
+    row("8.23.10", "0c 01 ff", E("a text isn't UTF-8", 0), E("a text isn't UTF-8", 0)),
     row("8.23", "12 04 01 02 03 04", E(OUTSIDE, 0), E(OUTSIDE, 0)),
     row("8.23", "13 01 2a", E(OUTSIDE, 0), E(OUTSIDE, 0)),
     row("8.23", "16 01 80", E(OUTSIDE, 0), E(OUTSIDE, 0)),
@@ -138,7 +138,7 @@ const ROWS: &[Row] = &[
     row("11.8", "17 0d 32 30 30 31 30 31 30 30 30 30 30 30 5a", O(1, 15), O(1, 15)),
     row("11.8.2", "17 0b 32 30 30 31 30 31 30 30 30 30 5a", E("a time has no seconds", 0), O(1, 13)),
     row("8.25", "17 0d 32 30 31 33 30 31 30 30 30 30 30 30 5a", E("isn't a text of its type", 0), E("isn't a text of its type", 0)),
-    row("X.680 47", "17 0d 31 36 31 32 33 31 32 33 35 39 36 30 5a", O(1, 15), O(1, 15)),
+    row("X.680 47.3", "17 0d 31 36 31 32 33 31 32 33 35 39 36 30 5a", E("isn't a text of its type", 0), E("isn't a text of its type", 0)),
     // "200101000000-0000"
     row("11.8.1", "17 11 32 30 30 31 30 31 30 30 30 30 30 30 2d 30 30 30 30", E("a time doesn't end in Z", 0), O(1, 19)),
     // "20200101000000.5Z", "20200101000000.0Z", "20200101000000,5Z"

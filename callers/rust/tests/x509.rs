@@ -1,12 +1,12 @@
 //! Certificates beside openssl, the rows of the library's tests, and C.
 #![cfg(feature = "std")]
 use dumarewhi::x509::{
-    AccessDescription, Attribute, AuthorityKeyIdentifier, BasicConstraints, Certificate, CertificateList,
-    CertificationRequest, DirectoryAttributes, DistributionPoint, EcPrivateKey, EncryptedPrivateKey, Error,
-    Extension, Field, GeneralName, GeneralNames, IssuingDistributionPoint, KeyPurposes, KeyUsage, Name,
-    OrganizationIdentifier, Policy, PolicyConstraints, PolicyMappings, PrivateKey, QcStatements,
-    RelativeName, RsaPrivateKey, RsaPublicKey, SubjectPublicKeyInfo, Subtrees, Timestamps, TlsFeatures,
-    Value,
+    AccessDescription, Attribute, AuthorityKeyIdentifier, BasicConstraints, BrokenRule, Certificate,
+    CertificateList, CertificationRequest, DirectoryAttributes, DistributionPoint, EcPrivateKey,
+    EncryptedPrivateKey, Error, Extension, Field, GeneralName, GeneralNames, IssuingDistributionPoint,
+    KeyPurposes, KeyUsage, Name, OrganizationIdentifier, Policy, PolicyConstraints, PolicyMappings,
+    PrivateKey, QcStatements, RelativeName, RsaPrivateKey, RsaPublicKey, SubjectPublicKeyInfo, Subtrees,
+    Timestamps, TlsFeatures, Value,
 };
 use dumarewhi::{oid, BitString, ErrorKind, Integer, ObjectIdentifier, Reason, Tag, Time};
 use shared::{damaged, made, openssl, run_c, store, Random};
@@ -545,6 +545,40 @@ fn rows_of_strict_certificates() {
     }
 }
 
+/// The rules by their names, in the order of their numbers from `first` on.
+fn compare_rules(first: u32, names: &[(String, String)], broken: &[BrokenRule], must: bool, expected: &str) {
+    let mut found = Vec::new();
+    for rule in broken.iter().filter(|rule| rule.is_must() == must) {
+        let (name, text) = &names[(rule.number() - first) as usize];
+        assert_eq!(rule.to_string(), *text);
+        found.push(name.as_str());
+    }
+    assert_eq!(found.join(", "), expected);
+}
+
+#[test]
+fn rows_of_rules() {
+    let names = rows("../rules/names", "text");
+    for (call, must) in [("must", true), ("should", false)] {
+        for (input, expected) in rows("../rules/certificates", call) {
+            let octets = octets(&input);
+            let broken: Vec<_> = Certificate::from_der(&octets).unwrap().broken_rules().collect();
+            compare_rules(1, &names, &broken, must, &expected);
+        }
+    }
+    let names = rows("../rules/names", "list_text");
+    for (call, must) in [("list_must", true), ("list_should", false)] {
+        for (input, expected) in rows("../rules/lists", call) {
+            let octets = octets(&input);
+            let broken: Vec<_> = CertificateList::from_der(&octets)
+                .unwrap()
+                .broken_rules()
+                .collect();
+            compare_rules(1001, &names, &broken, must, &expected);
+        }
+    }
+}
+
 /// The text of an error is that of the row, which may have the values of the error after it. Of a tag that isn't the
 /// expected one, the crate has the tag that was found.
 fn compare(found: Result<String, Error>, expected: &str, input: &str) {
@@ -1042,7 +1076,7 @@ fn put_further_value(line: &mut String, value: Value<'_>) {
             }
         }
         Value::OrganizationIdentifier(it) => put_organization(line, it),
-        Value::OcspNoCheck | Value::PrecertificatePoison => line.push_str(" null"),
+        Value::NoRevAvail | Value::OcspNoCheck | Value::PrecertificatePoison => line.push_str(" null"),
         other => panic!("{other:?}"),
     }
 }

@@ -5,10 +5,10 @@ use Rattle.der_base.specs.declared.rules.Rules.TheVariants.{Der}
 use Rattle.der_cursor.specs.declared.cursor.Cursor.{Cursor}
 use Rattle.der_cursor.specs.declared.refusal.Refusal.{Refusal}
 use Rattle.der_cursor.specs.Cursors.{OpensType, StartsAt, octets_left}
-use Rattle.der_x509.specs.Formats.{sequence, spells}
-use Rattle.der_x509.specs.Readers.{fault_of, spot_of}
-use Rattle.der_x509.proofs.FormatLaws.{shows_one}
-use Rattle.der_x509.proofs.ReaderLaws.{type_read}
+use Rattle.x509.specs.Formats.{sequence, spells}
+use Rattle.x509.specs.Readers.{fault_of, spot_of}
+use Rattle.x509.proofs.FormatLaws.{shows_one}
+use Rattle.x509.proofs.ReaderLaws.{type_read}
 
 pub after_opened : {i : List ℕ} {c inner new : Cursor} → StartsAt Der i c → OpensType true 16 c (Ok inner) new
     → (w rest : List ℕ) → spells sequence i w rest → octets_left new ≡ rest

@@ -1,2 +1,3 @@
 pub mod AfterSequence
 pub mod AfterTimestamp
+pub mod BrokenNumbers

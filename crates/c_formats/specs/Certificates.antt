@@ -1,10 +1,10 @@
 -- Certificates as C sees them.
 use Rattle.std.specs.Prelude.{◌≡◌, Some}
-use Rattle.der_x509.specs.declared.certificate.Certificate.{Certificate}
-use Rattle.der_x509.specs.declared.refusal.CertificateRefusal.{CertificateRefusal}
-use Rattle.der_x509.specs.declared.rules.StrictRefusal.{StrictRefusal}
-use Rattle.der_x509.specs.declared.rules.StrictRefusal.TheVariants.{NotRead, Broken}
-use Rattle.der_x509.specs.Certificates.{Signed, certificate_of}
+use Rattle.x509.specs.declared.certificate.Certificate.{Certificate}
+use Rattle.x509.specs.declared.refusal.CertificateRefusal.{CertificateRefusal}
+use Rattle.x509.specs.declared.rules.StrictRefusal.{StrictRefusal}
+use Rattle.x509.specs.declared.rules.StrictRefusal.TheVariants.{NotRead, Broken}
+use Rattle.x509.specs.Certificates.{Signed, certificate_of}
 use Rattle.c_values.specs.declared.fault.DmFault.{DmFault}
 use Rattle.c_values.specs.Faults.{field_fault, rule_fault}
 use Rattle.c_values.specs.Parts.{algorithm_in, bits_in, bits_numbers, moment_fields, version_number}

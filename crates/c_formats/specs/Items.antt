@@ -1,17 +1,20 @@
 -- Items of the lists of a certificate as C sees them.
-use Rattle.std.specs.Prelude.{◌≡◌, ℕ, ◌&&◌, ◌||◌, ◌==◌, if◌then◌else◌, Option, Some, None, List, [], ◌∷◌}
+use Rattle.std.specs.Prelude.{◌≡◌, ℕ, Option, Some, None, List, []}
+use Rattle.std.specs.Option.{option_map, unwrap_or}
 use Rattle.der_base.specs.Header.{class_of, is_constructed, number_of}
-use Rattle.der_base.specs.Text.{is_within}
 use Rattle.der_extensions.specs.declared.general_name.GeneralName.{GeneralName}
+use Rattle.der_extensions.specs.declared.known.KnownExtension.{KnownExtension}
+use Rattle.der_extensions.specs.declared.known.KnownExtension.TheVariants as known
 use Rattle.der_extensions.specs.GeneralNames.{NameValue, name_of, other_name, rfc822_name, dns_name, x400_address}
 use Rattle.der_extensions.specs.GeneralNames.{directory_name, edi_party_name, uniform_resource_identifier, ip_address}
 use Rattle.der_extensions.specs.GeneralNames.{registered_id}
+use Rattle.der_extensions.specs.Known.{IdentifiesExtension}
 use Rattle.der_values.specs.declared.identifier.ObjectIdentifier.{ObjectIdentifier}
 use Rattle.der_values.specs.Kinds.{borrowed_octets}
-use Rattle.der_x509.specs.declared.extension.Extension.{Extension}
-use Rattle.der_x509.specs.declared.name.AttributeTypeAndValue.{AttributeTypeAndValue}
-use Rattle.der_x509.specs.declared.name.RelativeDistinguishedName.{RelativeDistinguishedName}
-use Rattle.der_x509.specs.Certificates.{ExtensionValue, extension_of}
+use Rattle.x509.specs.declared.extension.Extension.{Extension}
+use Rattle.x509.specs.declared.name.AttributeTypeAndValue.{AttributeTypeAndValue}
+use Rattle.x509.specs.declared.name.RelativeDistinguishedName.{RelativeDistinguishedName}
+use Rattle.x509.specs.Certificates.{ExtensionValue, extension_of}
 use Rattle.c_values.specs.declared.octets.DmOctets.{DmOctets}
 use Rattle.c_values.specs.Elements.{bit, class_number}
 use Rattle.c_formats.specs.declared.items.DmAttribute.{DmAttribute}
@@ -49,39 +52,49 @@ pub record HasAttribute (a : AttributeTypeAndValue) (d : DmAttribute) : Type 0 w
 abbrev pub IsAttribute : AttributeTypeAndValue → DmAttribute → Type 0
 IsAttribute a d = HasAttribute a d
 
--- The extensions whose values are read, by the last arcs of their identifiers (A.2): of id-ce, 2.5.29, and of id-pe,
--- 1.3.6.1.5.5.7.1. Another has the number 0.
-abbrev pub certificate_kind : ℕ → ℕ
-certificate_kind n = if n == 9 || n == 14 || n == 15 || is_within 17 21 n || n == 24 || is_within 27 33 n
-    || is_within 35 37 n || n == 46 || n == 54 then n else 0
+-- The number of an extension: the last arc of its identifier, or one from 256 on.
+abbrev pub kind_number : KnownExtension → ℕ
+kind_number known.AuthorityInfoAccess = 1
+kind_number known.QcStatements = 3
+kind_number known.SubjectDirectoryAttributes = 9
+kind_number known.SubjectInfoAccess = 11
+kind_number known.SubjectKeyIdentifier = 14
+kind_number known.KeyUsage = 15
+kind_number known.SubjectAltName = 17
+kind_number known.IssuerAltName = 18
+kind_number known.BasicConstraints = 19
+kind_number known.CrlNumber = 20
+kind_number known.ReasonCode = 21
+kind_number known.InvalidityDate = 24
+kind_number known.DeltaCrlIndicator = 27
+kind_number known.IssuingDistributionPoint = 28
+kind_number known.CertificateIssuer = 29
+kind_number known.NameConstraints = 30
+kind_number known.CrlDistributionPoints = 31
+kind_number known.CertificatePolicies = 32
+kind_number known.PolicyMappings = 33
+kind_number known.AuthorityKeyIdentifier = 35
+kind_number known.PolicyConstraints = 36
+kind_number known.ExtendedKeyUsage = 37
+kind_number known.FreshestCrl = 46
+kind_number known.InhibitAnyPolicy = 54
+kind_number known.NoRevAvail = 56
+kind_number known.TlsFeature = 256
+kind_number known.OcspNoCheck = 257
+kind_number known.SignedCertificateTimestamps = 258
+kind_number known.PrecertificatePoison = 259
+kind_number known.OrganizationIdentifier = 260
 
--- id-pe-tlsfeature (RFC 7633 6) has the last arc 24, as id-ce-invalidityDate
-abbrev pub access_kind : ℕ → ℕ
-access_kind n = if n == 1 || n == 3 || n == 11 then n else if n == 24 then 256 else 0
-
--- The extensions of the web with other identifiers: 1.3.6.1.5.5.7.48.1.5 (RFC 6960 4.2.2.2.1), 1.3.6.1.4.1.11129.2.4.n
--- (RFC 6962 3.1, 3.3), and 2.23.140.3.1 (EV Guidelines 9.8.2).
-abbrev pub transparency_kind : ℕ → ℕ
-transparency_kind n = if n == 2 then 258 else if n == 3 then 259 else 0
-
-abbrev pub extension_kind : List ℕ → ℕ
-extension_kind (a ∷ b ∷ n ∷ []) = if a == 0x55 && b == 0x1D then certificate_kind n else 0
-extension_kind (a ∷ b ∷ c ∷ d ∷ e ∷ f ∷ g ∷ n ∷ []) =
-    if a == 0x2B && b == 6 && c == 1 && d == 5 && e == 5 && f == 7 && g == 1 then access_kind n else 0
-extension_kind (a ∷ b ∷ c ∷ d ∷ e ∷ f ∷ g ∷ h ∷ n ∷ []) =
-    if a == 0x2B && b == 6 && c == 1 && d == 5 && e == 5 && f == 7 && g == 48 && h == 1 && n == 5 then 257 else 0
-extension_kind (a ∷ b ∷ c ∷ d ∷ e ∷ f ∷ g ∷ h ∷ i ∷ n ∷ []) =
-    if a == 0x2B && b == 6 && c == 1 && d == 4 && e == 1 && f == 0xD6 && g == 0x79 && h == 2 && i == 4
-    then transparency_kind n else 0
-extension_kind (a ∷ b ∷ c ∷ d ∷ n ∷ []) = if a == 0x67 && b == 0x81 && c == 0x0C && d == 3 && n == 1 then 260 else 0
-extension_kind _ = 0
+-- the number of the extension with this identifier, given its content octets; 0 if it is unknown
+abbrev pub IsExtensionKind : List ℕ → ℕ → Type 0
+IsExtensionKind w n = (k : Option KnownExtension) × IdentifiesExtension w k × (n ≡ unwrap_or (option_map kind_number k) 0)
 
 -- the fields are those of the extension (4.1.2.9)
 pub record HasExtension (x : ExtensionValue) (d : DmExtension) : Type 0 where
   pub identifier : d.identifier.now ≡ x.identifier
   pub value : d.value.now ≡ x.value
   pub critical : d.critical ≡ bit x.critical
-  pub kind : d.kind ≡ extension_kind x.identifier
+  pub kind : IsExtensionKind x.identifier d.kind
 
 abbrev pub IsExtension : Extension → DmExtension → Type 0
 IsExtension e d = HasExtension (extension_of e) d

@@ -6,7 +6,7 @@ use Rattle.der_cursor.specs.Cursors.{octets_left}
 use Rattle.der_cursor.specs.Elements.{element_of}
 use Rattle.der_cursor.specs.Named.{names_of}
 use Rattle.der_values.specs.Kinds.{borrowed_octets}
-use Rattle.der_x509.specs.Certificates.{bits_of}
+use Rattle.x509.specs.Certificates.{bits_of}
 use Rattle.c_values.specs.declared.fault.DmFault.{DmFault}
 use Rattle.c_values.specs.AnyElements.{HasAnyOrNone}
 use Rattle.c_values.specs.Parts.{bits_in, bits_numbers}
@@ -15,8 +15,8 @@ use Rattle.c_values.specs.Faults.{field_fault}
 use Rattle.c_formats.specs.declared.key.DmPrivateKey.{DmPrivateKey}
 use Rattle.c_formats.specs.declared.key.DmRsaPrivateKey.{DmRsaPrivateKey}
 use Rattle.c_formats.specs.FieldNumbers.{key_field_number, only_name, rsa_field_number}
-use Rattle.pkcs8_reader.specs.declared.key.PrivateKeyInfo.{PrivateKeyInfo}
-use Rattle.pkcs8_reader.specs.declared.rsa.RsaPrivateKey.{RsaPrivateKey}
+use Rattle.x509_keys.specs.declared.key.PrivateKeyInfo.{PrivateKeyInfo}
+use Rattle.x509_keys.specs.declared.rsa.RsaPrivateKey.{RsaPrivateKey}
 
 -- the fields are those of the key (RFC 5958 2); a part that is absent has no octets
 pub record HasKey (k : PrivateKeyInfo) (d : DmPrivateKey) : Type 0 where

@@ -9,4 +9,5 @@ pub mod OtherKeys
 pub mod PathExtensions
 pub mod Requests
 pub mod RevokedLists
+pub mod Rules
 pub mod Web

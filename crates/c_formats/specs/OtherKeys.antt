@@ -5,7 +5,7 @@ use Rattle.der_cursor.specs.declared.named.FieldRefusal.{FieldRefusal}
 use Rattle.der_cursor.specs.Elements.{element_of}
 use Rattle.der_cursor.specs.Named.{names_of}
 use Rattle.der_values.specs.Kinds.{borrowed_octets}
-use Rattle.der_x509.specs.Certificates.{bits_of}
+use Rattle.x509.specs.Certificates.{bits_of}
 use Rattle.c_values.specs.declared.fault.DmFault.{DmFault}
 use Rattle.c_values.specs.AnyElements.{HasAnyOrNone}
 use Rattle.c_values.specs.Parts.{bits_in, bits_numbers}
@@ -17,10 +17,10 @@ use Rattle.c_formats.specs.declared.other_keys.DmPublicKey.{DmPublicKey}
 use Rattle.c_formats.specs.declared.other_keys.DmRsaPublicKey.{DmRsaPublicKey}
 use Rattle.c_formats.specs.FieldNumbers.{ec_field_number, encrypted_field_number, only_name, public_field_number}
 use Rattle.c_formats.specs.FieldNumbers.{rsa_public_field_number}
-use Rattle.pkcs8_reader.specs.declared.curve.EcPrivateKey.{EcPrivateKey}
-use Rattle.pkcs8_reader.specs.declared.encrypted.EncryptedPrivateKeyInfo.{EncryptedPrivateKeyInfo}
-use Rattle.pkcs8_reader.specs.declared.public.RsaPublicKey.{RsaPublicKey}
-use Rattle.pkcs8_reader.specs.declared.public.SubjectPublicKeyInfo.{SubjectPublicKeyInfo}
+use Rattle.x509_keys.specs.declared.curve.EcPrivateKey.{EcPrivateKey}
+use Rattle.x509_keys.specs.declared.encrypted.EncryptedPrivateKeyInfo.{EncryptedPrivateKeyInfo}
+use Rattle.x509_keys.specs.declared.public.RsaPublicKey.{RsaPublicKey}
+use Rattle.x509_keys.specs.declared.public.SubjectPublicKeyInfo.{SubjectPublicKeyInfo}
 
 -- the fields are those of the key (RFC 5915 3)
 pub record HasEcKey (k : EcPrivateKey) (d : DmEcPrivateKey) : Type 0 where

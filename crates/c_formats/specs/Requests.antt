@@ -1,10 +1,10 @@
 -- Certification requests as C sees them.
 use Rattle.std.specs.Prelude.{◌≡◌, Some}
-use Rattle.der_request.specs.declared.attribute.Attribute.{Attribute}
-use Rattle.der_request.specs.declared.refusal.RequestRefusal.{RequestRefusal}
-use Rattle.der_request.specs.declared.request.CertificationRequest.{CertificationRequest}
-use Rattle.der_request.specs.Requests.{Attribute as AttributeValue, Signed, attribute_of, request_of}
-use Rattle.der_x509.specs.declared.extension.Extensions.{Extensions}
+use Rattle.x509_keys.specs.declared.request.attribute.Attribute.{Attribute}
+use Rattle.x509_keys.specs.declared.request.refusal.RequestRefusal.{RequestRefusal}
+use Rattle.x509_keys.specs.declared.request.CertificationRequest.{CertificationRequest}
+use Rattle.x509_keys.specs.Request.Requests.{Attribute as AttributeValue, Signed, attribute_of, request_of}
+use Rattle.x509.specs.declared.extension.Extensions.{Extensions}
 use Rattle.c_values.specs.declared.fault.DmFault.{DmFault}
 use Rattle.c_values.specs.declared.octets.DmOctets.{DmOctets}
 use Rattle.c_values.specs.Parts.{algorithm_in, bits_in, bits_numbers}

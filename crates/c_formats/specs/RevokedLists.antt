@@ -1,12 +1,12 @@
 -- Lists of revoked certificates as C sees them.
 use Rattle.std.specs.Prelude.{◌≡◌, ℕ, is_some, Some, []}
 use Rattle.std.specs.Option.{unwrap_or}
-use Rattle.crl_reader.specs.declared.entry.RevokedCertificate.{RevokedCertificate}
-use Rattle.crl_reader.specs.declared.list.CertificateList.{CertificateList}
-use Rattle.crl_reader.specs.declared.reason.Reason.{Reason}
-use Rattle.crl_reader.specs.declared.refusal.ListRefusal.{ListRefusal}
-use Rattle.crl_reader.specs.Lists.{Revoked, Signed, certificate_list_of, revoked_of}
-use Rattle.crl_reader.specs.Reasons.{number_of}
+use Rattle.x509.specs.declared.crl.entry.RevokedCertificate.{RevokedCertificate}
+use Rattle.x509.specs.declared.crl.list.CertificateList.{CertificateList}
+use Rattle.x509.specs.declared.crl.reason.Reason.{Reason}
+use Rattle.x509.specs.declared.crl.refusal.ListRefusal.{ListRefusal}
+use Rattle.x509.specs.Crl.Lists.{Revoked, Signed, certificate_list_of, revoked_of}
+use Rattle.x509.specs.Crl.Reasons.{number_of}
 use Rattle.der_extensions.specs.declared.issuing_distribution_point.IssuingDistributionPoint as issuing
 use Rattle.der_extensions.specs.Revocation.{IssuingPointValue, issuing_point_of}
 use Rattle.c_values.specs.declared.fault.DmFault.{DmFault}

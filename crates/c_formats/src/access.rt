@@ -1,4 +1,4 @@
-//! Where more about an authority is found (RFC 5280 4.2.2).
+//! Access to information of a CA or of the subject (RFC 5280 4.2.2).
 ghost use Rattle.c_formats.specs.ExtensionLists.{HasAccess, IsAccess};
 ghost use Rattle.c_formats.specs.Items.{Taken};
 ghost use Rattle.der_extensions.specs.Extensions.{access_of};
@@ -7,17 +7,17 @@ use crate::items::{DmGeneralName, general_name};
 use c_values::parts::identifier_octets;
 use der_extensions::AccessDescription;
 
-/// Which information it is, and where. Octets are slices of the value.
+/// The kind of information, and its location. Octets are slices of the value.
 #[repr(C)]
 #[derive(Clone, Copy)]
 pub struct DmAccessDescription<'a> {
-    /// The content octets of the identifier of the information's kind.
+    /// The content octets of the OID of the kind.
     pub method: &'a [u8],
-    /// Where it is.
+    /// The location.
     pub location: DmGeneralName<'a>,
 }
 
-/// Writes a description that was taken. Returns 1, or 0 if there is none.
+/// Writes a description. Returns 1, or 0 if there is none.
 pub fn write_description<'a>(
     found: Option<AccessDescription<'a>>,
     description: &mut DmAccessDescription<'a>,
@@ -33,7 +33,7 @@ pub fn write_description<'a>(
     }
 }
 
-/// The fields of a description.
+/// The C struct of a description.
 fn access_fields<'a>(found: AccessDescription<'a>) -> DmAccessDescription<'a>
     ensures { HasAccess (access_of found.entry) result }
 {

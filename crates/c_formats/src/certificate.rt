@@ -3,45 +3,45 @@ ghost use Rattle.std.specs.Prelude.{◌≡◌};
 ghost use Rattle.c_formats.specs.Certificates.{HasCertificate, IsCertificate, certificate_fault, strict_fault};
 ghost use Rattle.c_formats.specs.FieldNumbers.{certificate_field_number};
 ghost use Rattle.c_values.specs.Faults.{Written};
-ghost use Rattle.der_x509.specs.Certificates.{certificate_of};
+ghost use Rattle.x509.specs.Certificates.{certificate_of};
 
 use c_values::fault::{DmFault, field_fault, no_fault, rule_fault};
 use c_values::parts::{
     DmAlgorithm, DmBits, DmMoment, algorithm, bits, moment, optional_bits, version_number,
 };
-use der_x509::{Certificate, CertificateRefusal, Field, StrictRefusal};
+use x509::{Certificate, CertificateRefusal, Field, StrictRefusal};
 
 /// A certificate. Octets are slices of the input.
 #[repr(C)]
 #[derive(Clone, Copy)]
 pub struct DmCertificate<'a> {
-    /// The octets that are signed: the encoding of a TBSCertificate.
+    /// The signed octets: the encoding of a TBSCertificate.
     pub tbs: &'a [u8],
     /// The content octets of the INTEGER, in two's complement.
     pub serial_number: &'a [u8],
-    /// The algorithm that is signed with the rest.
+    /// The signed algorithm identifier.
     pub signature: DmAlgorithm<'a>,
     /// The encodings of the issuer's relative names, one after another.
     pub issuer: &'a [u8],
-    /// Those of the subject.
+    /// The encodings of the subject's relative names, one after another.
     pub subject: &'a [u8],
-    /// The algorithm that the subject's key is for.
+    /// The algorithm of the subject's public key.
     pub key_algorithm: DmAlgorithm<'a>,
-    /// That key.
+    /// The subject's public key.
     pub key: DmBits<'a>,
     /// The issuer's unique identifier, if it has one.
     pub issuer_unique_id: DmBits<'a>,
-    /// The subject's.
+    /// The subject's unique identifier, if it has one.
     pub subject_unique_id: DmBits<'a>,
     /// The encodings of the extensions, one after another.
     pub extensions: &'a [u8],
-    /// The algorithm that `tbs` is signed by.
+    /// The algorithm of the signature.
     pub signature_algorithm: DmAlgorithm<'a>,
     /// The signature, which isn't verified.
     pub signature_value: DmBits<'a>,
-    /// From when the certificate is valid.
+    /// The start of the validity.
     pub not_before: DmMoment,
-    /// Until when.
+    /// The end of the validity.
     pub not_after: DmMoment,
     /// 1, 2 or 3.
     pub version: u32,
@@ -49,7 +49,7 @@ pub struct DmCertificate<'a> {
     pub reserved: u32,
 }
 
-/// Writes a certificate that was read. Returns the fault.
+/// Writes a certificate or its fault. Returns the fault.
 pub fn write<'a>(
     found: Result<Certificate<'a>, CertificateRefusal>,
     certificate: &mut DmCertificate<'a>,
@@ -65,7 +65,7 @@ pub fn write<'a>(
     }
 }
 
-/// The same of one that was read by all rules.
+/// The same for a certificate that keeps all rules.
 pub fn write_strict<'a>(
     found: Result<Certificate<'a>, StrictRefusal>,
     certificate: &mut DmCertificate<'a>,
@@ -82,7 +82,7 @@ pub fn write_strict<'a>(
     }
 }
 
-/// The fields of a certificate.
+/// The C struct of a certificate.
 fn fields<'a>(found: &Certificate<'a>) -> DmCertificate<'a>
     ensures { HasCertificate (certificate_of found.now) result }
 {

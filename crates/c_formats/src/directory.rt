@@ -1,4 +1,4 @@
-//! What else is said of the subject of a certificate (RFC 5280 4.2.1.8).
+//! Directory attributes of the subject (RFC 5280 4.2.1.8).
 ghost use Rattle.c_formats.specs.Directory.{HasAttribute, IsAttribute};
 ghost use Rattle.c_formats.specs.Items.{Taken};
 ghost use Rattle.der_extensions.specs.PolicyExtensions.{directory_attribute_of};
@@ -7,7 +7,7 @@ use crate::request::DmRequestAttribute;
 use c_values::parts::identifier_octets;
 use der_extensions::DirectoryAttribute;
 
-/// Writes an attribute that was taken. Returns 1, or 0 if there is none.
+/// Writes an attribute. Returns 1, or 0 if there is none.
 pub fn write_attribute<'a>(
     found: Option<DirectoryAttribute<'a>>,
     attribute: &mut DmRequestAttribute<'a>,
@@ -23,7 +23,7 @@ pub fn write_attribute<'a>(
     }
 }
 
-/// The fields of an attribute.
+/// The C struct of an attribute.
 fn attribute_fields<'a>(found: DirectoryAttribute<'a>) -> DmRequestAttribute<'a>
     ensures { HasAttribute (directory_attribute_of found.entry) result }
 {

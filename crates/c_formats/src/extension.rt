@@ -1,4 +1,4 @@
-//! Values of extensions (RFC 5280 4.2.1). Each is an input of its own.
+//! Values of extensions (RFC 5280 4.2.1). Offsets of faults count from the start of a value.
 ghost use Rattle.std.specs.Prelude.{◌≡◌, ◌≤◌, []};
 ghost use Rattle.std.specs.Option.{option_map, unwrap_or};
 ghost use Rattle.c_formats.specs.ExtensionValues.{HasAuthority, IsAuthority, IsConstraints, IsUsage};
@@ -17,25 +17,25 @@ use der_extensions::{AuthorityKeyIdentifier, BasicConstraints, GeneralNames, Key
 #[repr(C)]
 #[derive(Clone, Copy)]
 pub struct DmBasicConstraints {
-    /// Whether the key may verify signatures of certificates, 0 or 1.
+    /// 1 for a CA, whose key may verify signatures of certificates, else 0.
     pub ca: u32,
-    /// Whether there is a path length, 0 or 1.
+    /// 1 if there is a path length, else 0.
     pub has_path_length: u32,
-    /// How many certificates of authorities may follow this one in a path. 0 if there is none.
+    /// How many CA certificates may follow in a path; 0 if there is no path length.
     pub path_length: u32,
 }
 
-/// The value of an AuthorityKeyIdentifier (4.2.1.1). A field that is absent is empty.
+/// The value of an AuthorityKeyIdentifier (RFC 5280 4.2.1.1). An absent field is empty.
 #[repr(C)]
 #[derive(Clone, Copy)]
 pub struct DmAuthorityKeyIdentifier<'a> {
-    /// Which key it is.
+    /// The identifier of the issuer's key.
     pub key_identifier: &'a [u8],
-    /// The encodings of the names of the issuer's issuer, one after another.
+    /// The encodings of the general names of the issuer's issuer, one after another.
     pub issuer: &'a [u8],
     /// The content octets of the serial number of the issuer's certificate, in two's complement.
     pub serial_number: &'a [u8],
-    /// Whether the field is there, 0 or 1, and so on.
+    /// 1 if `key_identifier` is there, else 0. The next two flags are alike.
     pub has_key_identifier: u32,
     pub has_issuer: u32,
     pub has_serial_number: u32,
@@ -43,14 +43,14 @@ pub struct DmAuthorityKeyIdentifier<'a> {
     pub reserved: u32,
 }
 
-/// The fault of a reader of one value.
+/// The fault of a value.
 pub fn value_fault(e: Refusal<BerError>) -> DmFault
     ensures { result ≡ value_fault e }
 {
     field_fault(0, e)
 }
 
-/// Writes the value of a BasicConstraints that was read, or returns the fault.
+/// Writes a BasicConstraints, or returns the fault.
 pub fn write_constraints(
     found: Result<BasicConstraints, Refusal<BerError>>,
     constraints: &mut DmBasicConstraints,
@@ -76,7 +76,7 @@ fn constraints_fields(found: BasicConstraints) -> DmBasicConstraints
     }
 }
 
-/// Writes the value of a KeyUsage that was read, or returns the fault.
+/// Writes a KeyUsage, or returns the fault.
 pub fn write_usage(found: Result<KeyUsage<'_>, Refusal<BerError>>, usage: &mut u32) -> DmFault
     ensures { Written IsUsage value_fault found.entry usage.old usage.new result }
 {
@@ -103,7 +103,7 @@ fn usage_number(usage: KeyUsage<'_>) -> u32
         + flag(usage.decipher_only(), 256)
 }
 
-/// The value of a bit, if it is set.
+/// `value` if the bit is set, else 0.
 fn flag(is_set: bool, value: u32) -> u32
     ensures exactly { result ≡ flag is_set value }
     ensures most { result ≤ value }
@@ -111,7 +111,7 @@ fn flag(is_set: bool, value: u32) -> u32
     if is_set { value } else { 0 }
 }
 
-/// Writes the value of an AuthorityKeyIdentifier that was read, or returns the fault.
+/// Writes an AuthorityKeyIdentifier, or returns the fault.
 pub fn write_authority<'a>(
     found: Result<AuthorityKeyIdentifier<'a>, Refusal<BerError>>,
     identifier: &mut DmAuthorityKeyIdentifier<'a>,

@@ -1,4 +1,4 @@
-//! Private keys (RFC 5208 5, RFC 5958 2), and those of RSA (RFC 8017 A.1.2).
+//! Private keys (RFC 5208 5, RFC 5958 2) and RSA private keys (RFC 8017 A.1.2).
 ghost use Rattle.std.specs.Prelude.{◌≡◌, []};
 ghost use Rattle.std.specs.Option.{option_map, unwrap_or};
 ghost use Rattle.c_formats.specs.FieldNumbers.{key_field_number, only_name, prime_number, rsa_field_number};
@@ -11,15 +11,15 @@ use c_values::element::bit;
 use c_values::fault::{DmFault, FIRST_KEY_FIELD, FIRST_RSA_FIELD, field_fault, no_fault};
 use c_values::parts::{DmBits, identifier_octets, optional_bits};
 use der_cursor::{Cursor, FieldRefusal};
-use pkcs8_reader::{PrivateKeyInfo, RsaPrivateKey};
+use x509_keys::{PrivateKeyInfo, RsaPrivateKey};
 
 /// A private key. Octets are slices of the input.
 #[repr(C)]
 #[derive(Clone, Copy)]
 pub struct DmPrivateKey<'a> {
-    /// The content octets of the identifier of its algorithm.
+    /// The content octets of the algorithm's OID.
     pub algorithm: &'a [u8],
-    /// The algorithm's parameters. Their content isn't read.
+    /// The parameters of the algorithm. Their content isn't read.
     pub parameters: DmAny<'a>,
     /// The key, as its algorithm encodes it.
     pub private_key: &'a [u8],
@@ -29,15 +29,15 @@ pub struct DmPrivateKey<'a> {
     pub public_key: DmBits<'a>,
     /// 1 if there is a public key, else 0.
     pub version: u32,
-    /// Whether there are parameters, 0 or 1.
+    /// 1 if there are parameters, else 0.
     pub has_parameters: u32,
-    /// Whether there are attributes, 0 or 1.
+    /// 1 if there are attributes, else 0.
     pub has_attributes: u32,
     /// 0.
     pub reserved: u32,
 }
 
-/// The numbers of a key of RSA, each as the content octets of its INTEGER, in two's complement.
+/// An RSA private key. Each number is the content octets of its INTEGER, in two's complement.
 #[repr(C)]
 #[derive(Clone, Copy)]
 pub struct DmRsaPrivateKey<'a> {
@@ -53,11 +53,11 @@ pub struct DmRsaPrivateKey<'a> {
     pub other_primes: &'a [u8],
     /// 1 if there are further primes, else 0.
     pub version: u32,
-    /// Whether there are further primes, 0 or 1.
+    /// 1 if there are further primes, else 0.
     pub has_other_primes: u32,
 }
 
-/// Writes a private key that was read, or returns the fault.
+/// Writes a private key, or returns the fault.
 pub fn write<'a>(
     found: Result<PrivateKeyInfo<'a>, FieldRefusal>,
     key: &mut DmPrivateKey<'a>,
@@ -73,7 +73,7 @@ pub fn write<'a>(
     }
 }
 
-/// The fields of a key.
+/// The C struct of a key.
 fn fields<'a>(found: &PrivateKeyInfo<'a>) -> DmPrivateKey<'a>
     ensures { HasKey found.now result }
 {
@@ -90,7 +90,7 @@ fn fields<'a>(found: &PrivateKeyInfo<'a>) -> DmPrivateKey<'a>
     }
 }
 
-/// The octets that a cursor has left, or none.
+/// The octets left in a cursor; empty if there is none.
 fn octets_left<'a>(cursor: Option<Cursor<'a>>) -> &'a [u8]
     ensures { result.now ≡ unwrap_or (option_map octets_left cursor.entry) [] }
 {
@@ -108,7 +108,7 @@ pub fn key_fault(e: FieldRefusal) -> DmFault
     field_fault(field, e.refusal)
 }
 
-/// The one name of a field. The names of the readers of keys have no others before them.
+/// The only name of a field: the key readers put no other before it.
 pub(crate) fn only_name(names: &[&'static str]) -> &'static str
     ensures { result.now ≡ only_name names.now }
 {
@@ -137,7 +137,7 @@ fn key_field_number(name: &str) -> u32
     }
 }
 
-/// Writes a private key of RSA that was read, or returns the fault.
+/// Writes an RSA private key, or returns the fault.
 pub fn write_rsa<'a>(
     found: Result<RsaPrivateKey<'a>, FieldRefusal>,
     key: &mut DmRsaPrivateKey<'a>,
@@ -153,7 +153,7 @@ pub fn write_rsa<'a>(
     }
 }
 
-/// The numbers of a key.
+/// The C struct of an RSA private key.
 fn rsa_fields<'a>(found: &RsaPrivateKey<'a>) -> DmRsaPrivateKey<'a>
     ensures { HasRsaKey found.now result }
 {
@@ -172,7 +172,7 @@ fn rsa_fields<'a>(found: &RsaPrivateKey<'a>) -> DmRsaPrivateKey<'a>
     }
 }
 
-/// The fault of a field of a key of RSA.
+/// The fault of a field of an RSA private key.
 pub fn rsa_fault(e: FieldRefusal) -> DmFault
     ensures { result ≡ rsa_fault e }
 {
@@ -199,7 +199,7 @@ fn rsa_field_number(name: &str) -> u32
     }
 }
 
-/// That of a prime, of an exponent or of the coefficient.
+/// The number of a prime, an exponent or the coefficient, by its name.
 fn prime_number(name: &str) -> u32
     ensures { result ≡ prime_number name.now }
 {

@@ -1,5 +1,4 @@
-//! What the library for C has of certificates, their extensions and lists, keys and requests: each as a struct of C.
-//! `dumarewhi_c` has the calls.
+//! The structs of the C library for certificates, extensions, CRLs, keys and CSRs. `dumarewhi_c` exports the calls.
 #![tactic(auto)]
 
 pub mod access;
@@ -16,6 +15,7 @@ pub mod policy;
 pub mod request;
 pub mod revocation;
 pub mod revoked;
+pub mod rules;
 pub mod sequences;
 pub mod subtree;
 pub mod web;

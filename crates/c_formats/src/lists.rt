@@ -1,11 +1,11 @@
-//! Items of the lists of a certificate, written for C.
+//! Writes items of the lists of a certificate, for C.
 ghost use Rattle.std.specs.Prelude.{◌≡◌, []};
 ghost use Rattle.std.specs.Option.{option_map, unwrap_or};
 ghost use Rattle.c_formats.specs.Items.{IsAttribute, IsExtension, IsGeneralName, IsPurpose, IsRelativeName, Taken};
 ghost use Rattle.c_formats.specs.Items.{left};
 ghost use Rattle.der_extensions.specs.Lists.{YieldsNext as YieldsItem, list_octets};
-ghost use Rattle.der_x509.specs.Certificates.{extension as extension_format, extension_of};
-ghost use Rattle.der_x509.specs.Lists.{YieldsNext};
+ghost use Rattle.x509.specs.Certificates.{extension as extension_format, extension_of};
+ghost use Rattle.x509.specs.Lists.{YieldsNext};
 
 use crate::items::{DmAttribute, DmExtension, DmGeneralName, attribute, extension, general_name};
 use c_values::octets::DmOctets;
@@ -13,10 +13,10 @@ use c_values::parts::identifier_octets;
 use der_cursor::Cursor;
 use der_extensions::{FromRefusal, GeneralName, Item, SequenceOf};
 use der_values::ObjectIdentifier;
-use der_x509::parts::read_extension;
-use der_x509::{AttributeTypeAndValue, Extension, RelativeDistinguishedName};
+use x509::parts::read_extension;
+use x509::{AttributeTypeAndValue, Extension, RelativeDistinguishedName};
 
-/// Writes a relative name that was taken. Returns 1, or 0 if there is none.
+/// Writes a relative name. Returns 1, or 0 if there is none.
 pub fn write_relative_name<'a>(
     found: Option<RelativeDistinguishedName<'a>>,
     attributes: &mut DmOctets<'a>,
@@ -32,7 +32,7 @@ pub fn write_relative_name<'a>(
     }
 }
 
-/// Writes an attribute that was taken. Returns 1, or 0 if there is none.
+/// Writes an attribute. Returns 1, or 0 if there is none.
 pub fn write_attribute<'a>(
     found: Option<AttributeTypeAndValue<'a>>,
     written: &mut DmAttribute<'a>,
@@ -48,7 +48,7 @@ pub fn write_attribute<'a>(
     }
 }
 
-/// Writes an extension that was taken. Returns 1, or 0 if there is none.
+/// Writes an extension. Returns 1, or 0 if there is none.
 pub fn write_extension<'a>(found: Option<Extension<'a>>, written: &mut DmExtension<'a>) -> u32
     ensures { Taken IsExtension found.entry written.old written.new result }
 {
@@ -61,7 +61,7 @@ pub fn write_extension<'a>(found: Option<Extension<'a>>, written: &mut DmExtensi
     }
 }
 
-/// Takes the next extension.
+/// Takes the next extension from the list.
 pub fn next_extension<'a>(extensions: &mut DmOctets<'a>) -> Option<Extension<'a>>
     ensures { YieldsNext left extension_of extension_format extensions.old result extensions.new }
 {
@@ -73,7 +73,7 @@ pub fn next_extension<'a>(extensions: &mut DmOctets<'a>) -> Option<Extension<'a>
     Some(extension)
 }
 
-/// Writes a general name that was taken. Returns 1, or 0 if there is none.
+/// Writes a general name. Returns 1, or 0 if there is none.
 pub fn write_general_name<'a>(
     found: Option<GeneralName<'a>>,
     written: &mut DmGeneralName<'a>,
@@ -89,7 +89,7 @@ pub fn write_general_name<'a>(
     }
 }
 
-/// Writes a purpose of a key that was taken. Returns 1, or 0 if there is none.
+/// Writes a key purpose. Returns 1, or 0 if there is none.
 pub fn write_purpose<'a>(found: Option<ObjectIdentifier<'a>>, identifier: &mut DmOctets<'a>) -> u32
     ensures { Taken IsPurpose found.entry identifier.old identifier.new result }
 {
@@ -102,7 +102,7 @@ pub fn write_purpose<'a>(found: Option<ObjectIdentifier<'a>>, identifier: &mut D
     }
 }
 
-/// The octets of a list, or none.
+/// The octets of a list; empty if there is none.
 pub(crate) fn list_or_none<'a, T: Drop>(list: Option<SequenceOf<'a, T>>) -> &'a [u8]
     ensures { result.now ≡ unwrap_or (option_map list_octets list.entry) [] }
 {
@@ -112,7 +112,7 @@ pub(crate) fn list_or_none<'a, T: Drop>(list: Option<SequenceOf<'a, T>>) -> &'a 
     }
 }
 
-/// Takes the next value of a list.
+/// Takes the next item from the list.
 pub fn next_item<'a, T: Item<'a, E>, E: FromRefusal>(list: &mut DmOctets<'a>) -> Option<T>
     ensures { YieldsItem left T.view T.field list.old result list.new }
 {

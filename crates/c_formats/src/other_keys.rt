@@ -1,5 +1,5 @@
-//! Keys beside those of PKCS #8: private ones of elliptic curves (RFC 5915 3), encrypted ones (RFC 5958 3), and public
-//! ones (RFC 5280 4.1.2.7, RFC 8017 A.1.1).
+//! Keys other than PKCS #8: elliptic private keys (RFC 5915 3), encrypted private keys (RFC 5958 3) and public keys
+//! (RFC 5280 4.1.2.7, RFC 8017 A.1.1).
 ghost use Rattle.std.specs.Prelude.{◌≡◌};
 ghost use Rattle.c_formats.specs.FieldNumbers.{ec_field_number, encrypted_field_number, public_field_number};
 ghost use Rattle.c_formats.specs.FieldNumbers.{rsa_public_field_number};
@@ -17,21 +17,21 @@ use c_values::fault::{
 };
 use c_values::parts::{DmBits, bits, identifier_octets, optional_bits};
 use der_cursor::FieldRefusal;
-use pkcs8_reader::{EcPrivateKey, EncryptedPrivateKeyInfo, RsaPublicKey, SubjectPublicKeyInfo};
+use x509_keys::{EcPrivateKey, EncryptedPrivateKeyInfo, RsaPublicKey, SubjectPublicKeyInfo};
 
-/// A private key of a curve. Octets are slices of the input.
+/// An elliptic private key. Octets are slices of the input.
 #[repr(C)]
 #[derive(Clone, Copy)]
 pub struct DmEcPrivateKey<'a> {
-    /// The key, a number in as many octets as the order of the curve has.
+    /// The private number, in as many octets as the order of the curve has.
     pub private_key: &'a [u8],
-    /// The curve, by its identifier or in any other way. Its content isn't read.
+    /// The curve: its OID or any other element, whose content isn't read.
     pub parameters: DmAny<'a>,
     /// The public key, if it is there.
     pub public_key: DmBits<'a>,
     /// Always 1.
     pub version: u32,
-    /// Whether there are parameters, 0 or 1.
+    /// 1 if there are parameters, else 0.
     pub has_parameters: u32,
 }
 
@@ -39,13 +39,13 @@ pub struct DmEcPrivateKey<'a> {
 #[repr(C)]
 #[derive(Clone, Copy)]
 pub struct DmEncryptedPrivateKey<'a> {
-    /// The content octets of the identifier of the algorithm that it is encrypted by.
+    /// The content octets of the encryption algorithm's OID.
     pub algorithm: &'a [u8],
-    /// That algorithm's parameters. Their content isn't read.
+    /// The parameters of the encryption algorithm. Their content isn't read.
     pub parameters: DmAny<'a>,
-    /// The octets that are encrypted.
+    /// The encrypted octets.
     pub encrypted_data: &'a [u8],
-    /// Whether there are parameters, 0 or 1.
+    /// 1 if there are parameters, else 0.
     pub has_parameters: u32,
     /// 0.
     pub reserved: u32,
@@ -55,19 +55,19 @@ pub struct DmEncryptedPrivateKey<'a> {
 #[repr(C)]
 #[derive(Clone, Copy)]
 pub struct DmPublicKey<'a> {
-    /// The content octets of the identifier of its algorithm.
+    /// The content octets of the algorithm's OID.
     pub algorithm: &'a [u8],
-    /// The algorithm's parameters. Their content isn't read.
+    /// The parameters of the algorithm. Their content isn't read.
     pub parameters: DmAny<'a>,
     /// The key, as its algorithm encodes it.
     pub public_key: DmBits<'a>,
-    /// Whether there are parameters, 0 or 1.
+    /// 1 if there are parameters, else 0.
     pub has_parameters: u32,
     /// 0.
     pub reserved: u32,
 }
 
-/// The numbers of a public key of RSA, each as the content octets of its INTEGER, in two's complement.
+/// An RSA public key. Each number is the content octets of its INTEGER, in two's complement.
 #[repr(C)]
 #[derive(Clone, Copy)]
 pub struct DmRsaPublicKey<'a> {
@@ -75,7 +75,7 @@ pub struct DmRsaPublicKey<'a> {
     pub public_exponent: &'a [u8],
 }
 
-/// Writes a private key of a curve that was read, or returns the fault.
+/// Writes an elliptic private key, or returns the fault.
 pub fn write_ec<'a>(
     found: Result<EcPrivateKey<'a>, FieldRefusal>,
     key: &mut DmEcPrivateKey<'a>,
@@ -91,7 +91,7 @@ pub fn write_ec<'a>(
     }
 }
 
-/// The fields of a private key of a curve.
+/// The C struct of an elliptic private key.
 fn ec_fields<'a>(found: &EcPrivateKey<'a>) -> DmEcPrivateKey<'a>
     ensures { HasEcKey found.now result }
 {
@@ -104,7 +104,7 @@ fn ec_fields<'a>(found: &EcPrivateKey<'a>) -> DmEcPrivateKey<'a>
     }
 }
 
-/// The fault of a field of a private key of a curve.
+/// The fault of a field of an elliptic private key.
 pub fn ec_fault(e: FieldRefusal) -> DmFault
     ensures { result ≡ ec_fault e }
 {
@@ -129,7 +129,7 @@ fn ec_field_number(name: &str) -> u32
     }
 }
 
-/// Writes an encrypted private key that was read, or returns the fault.
+/// Writes an encrypted private key, or returns the fault.
 pub fn write_encrypted<'a>(
     found: Result<EncryptedPrivateKeyInfo<'a>, FieldRefusal>,
     key: &mut DmEncryptedPrivateKey<'a>,
@@ -145,7 +145,7 @@ pub fn write_encrypted<'a>(
     }
 }
 
-/// The fields of an encrypted private key.
+/// The C struct of an encrypted private key.
 fn encrypted_fields<'a>(found: &EncryptedPrivateKeyInfo<'a>) -> DmEncryptedPrivateKey<'a>
     ensures { HasEncryptedKey found.now result }
 {
@@ -179,7 +179,7 @@ fn encrypted_field_number(name: &str) -> u32
     }
 }
 
-/// Writes a public key that was read, or returns the fault.
+/// Writes a public key, or returns the fault.
 pub fn write_public<'a>(
     found: Result<SubjectPublicKeyInfo<'a>, FieldRefusal>,
     key: &mut DmPublicKey<'a>,
@@ -195,7 +195,7 @@ pub fn write_public<'a>(
     }
 }
 
-/// The fields of a public key.
+/// The C struct of a public key.
 fn public_fields<'a>(found: &SubjectPublicKeyInfo<'a>) -> DmPublicKey<'a>
     ensures { HasPublicKey found.now result }
 {
@@ -229,7 +229,7 @@ fn public_field_number(name: &str) -> u32
     }
 }
 
-/// Writes a public key of RSA that was read, or returns the fault.
+/// Writes an RSA public key, or returns the fault.
 pub fn write_rsa_public<'a>(
     found: Result<RsaPublicKey<'a>, FieldRefusal>,
     key: &mut DmRsaPublicKey<'a>,
@@ -245,7 +245,7 @@ pub fn write_rsa_public<'a>(
     }
 }
 
-/// The numbers of a public key.
+/// The C struct of an RSA public key.
 fn rsa_public_fields<'a>(found: &RsaPublicKey<'a>) -> DmRsaPublicKey<'a>
     ensures { HasRsaPublicKey found.now result }
 {
@@ -255,7 +255,7 @@ fn rsa_public_fields<'a>(found: &RsaPublicKey<'a>) -> DmRsaPublicKey<'a>
     }
 }
 
-/// The fault of a field of a public key of RSA.
+/// The fault of a field of an RSA public key.
 pub fn rsa_public_fault(e: FieldRefusal) -> DmFault
     ensures { result ≡ rsa_public_fault e }
 {

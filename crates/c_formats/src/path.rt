@@ -1,5 +1,4 @@
-//! Which policies stand for others, and from where on in a path policies are asked for or mapped (RFC 5280 4.2.1.5,
-//! 4.2.1.11, 4.2.1.14).
+//! Policy mappings, and policy constraints of a certification path (RFC 5280 4.2.1.5, 4.2.1.11, 4.2.1.14).
 ghost use Rattle.std.specs.Prelude.{◌≡◌};
 ghost use Rattle.c_formats.specs.Items.{Taken};
 ghost use Rattle.c_formats.specs.PathExtensions.{HasMapping, IsMapping, IsPathConstraints, path_constraints_fields};
@@ -13,33 +12,32 @@ use der_base::error::BerError;
 use der_cursor::Refusal;
 use der_extensions::{PolicyConstraints, PolicyMapping};
 
-/// A policy of the issuer, and the one of the subject that is equivalent to it (4.2.1.5). Octets are slices of the
-/// value.
+/// A policy of the issuer and the subject's equivalent policy (RFC 5280 4.2.1.5). Octets are slices of the value.
 #[repr(C)]
 #[derive(Clone, Copy)]
 pub struct DmPolicyMapping<'a> {
-    /// The content octets of the identifier of the issuer's policy.
+    /// The content octets of the OID of the issuer's policy.
     pub issuer_policy: &'a [u8],
-    /// Those of the subject's.
+    /// The content octets of the OID of the subject's policy.
     pub subject_policy: &'a [u8],
 }
 
-/// The value of a PolicyConstraints (4.2.1.11). A number is how many certificates may follow in a path before the
-/// constraint holds.
+/// The value of a PolicyConstraints (RFC 5280 4.2.1.11). A number is how many certificates may follow in a path before
+/// the constraint holds.
 #[repr(C)]
 #[derive(Clone, Copy)]
 pub struct DmPolicyConstraints {
-    /// Whether policies are asked for from some certificate on, 0 or 1.
+    /// 1 if requireExplicitPolicy is there, else 0.
     pub has_require_explicit_policy: u32,
-    /// How many certificates may follow before. 0 if that isn't there.
+    /// The number of certificates before policies are required; 0 if absent.
     pub require_explicit_policy: u32,
-    /// Whether policies aren't mapped from some certificate on, 0 or 1.
+    /// 1 if inhibitPolicyMapping is there, else 0.
     pub has_inhibit_policy_mapping: u32,
-    /// How many certificates may follow before. 0 if that isn't there.
+    /// The number of certificates before policies are no longer mapped; 0 if absent.
     pub inhibit_policy_mapping: u32,
 }
 
-/// Writes a pair of policies that was taken. Returns 1, or 0 if there is none.
+/// Writes a policy mapping. Returns 1, or 0 if there is none.
 pub fn write_mapping<'a>(found: Option<PolicyMapping<'a>>, mapping: &mut DmPolicyMapping<'a>) -> u32
     ensures { Taken IsMapping found.entry mapping.old mapping.new result }
 {
@@ -52,7 +50,7 @@ pub fn write_mapping<'a>(found: Option<PolicyMapping<'a>>, mapping: &mut DmPolic
     }
 }
 
-/// The fields of a pair.
+/// The C struct of a policy mapping.
 fn mapping_fields<'a>(found: PolicyMapping<'a>) -> DmPolicyMapping<'a>
     ensures { HasMapping (mapping_of found.entry) result }
 {
@@ -62,7 +60,7 @@ fn mapping_fields<'a>(found: PolicyMapping<'a>) -> DmPolicyMapping<'a>
     }
 }
 
-/// Writes the value of a PolicyConstraints that was read, or returns the fault.
+/// Writes a PolicyConstraints, or returns the fault.
 pub fn write_constraints(
     found: Result<PolicyConstraints, Refusal<BerError>>,
     constraints: &mut DmPolicyConstraints,

@@ -1,4 +1,4 @@
-//! Where lists of revoked certificates are found (RFC 5280 4.2.1.13).
+//! CRL distribution points (RFC 5280 4.2.1.13).
 ghost use Rattle.std.specs.Option.{option_map};
 ghost use Rattle.c_formats.specs.ExtensionLists.{HasPoint, HasPointName, IsPoint};
 ghost use Rattle.c_formats.specs.Items.{Taken};
@@ -8,21 +8,21 @@ use crate::lists::list_or_none;
 use c_values::parts::{DmBits, optional_bits};
 use der_extensions::{DistributionPoint, DistributionPointName};
 
-/// A place of lists. Octets are slices of the value. One of the two names is empty, or both are.
+/// A distribution point. Octets are slices of the value. At least one of the two names is empty.
 #[repr(C)]
 #[derive(Clone, Copy)]
 pub struct DmDistributionPoint<'a> {
-    /// The encodings of its general names, one after another.
+    /// The encodings of the general names of its fullName, one after another.
     pub full_name: &'a [u8],
-    /// The encodings of the attributes of a relative name, which follows the name of the issuer.
+    /// The encodings of the attributes of a name relative to the issuer's, one after another.
     pub relative_name: &'a [u8],
-    /// A bit for each reason of revocation that the list has.
+    /// A bit for each reason of revocation that the CRL covers.
     pub reasons: DmBits<'a>,
-    /// The encodings of the names of who issues the list.
+    /// The encodings of the CRL issuer's general names, one after another.
     pub crl_issuer: &'a [u8],
 }
 
-/// Writes a point that was taken. Returns 1, or 0 if there is none.
+/// Writes a distribution point. Returns 1, or 0 if there is none.
 pub fn write_point<'a>(
     found: Option<DistributionPoint<'a>>,
     point: &mut DmDistributionPoint<'a>,
@@ -38,7 +38,7 @@ pub fn write_point<'a>(
     }
 }
 
-/// The fields of a point.
+/// The C struct of a distribution point.
 fn point_fields<'a>(found: DistributionPoint<'a>) -> DmDistributionPoint<'a>
     ensures { HasPoint (point_of found.entry) result }
 {

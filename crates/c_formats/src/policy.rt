@@ -1,4 +1,4 @@
-//! The policies by which a certificate was issued (RFC 5280 4.2.1.4).
+//! Certificate policies (RFC 5280 4.2.1.4).
 ghost use Rattle.c_formats.specs.ExtensionLists.{HasPolicy, IsPolicy, IsQualifier};
 ghost use Rattle.c_formats.specs.Items.{Taken};
 ghost use Rattle.der_extensions.specs.Extensions.{policy_of};
@@ -12,23 +12,23 @@ use der_extensions::{PolicyInformation, PolicyQualifierInfo};
 #[repr(C)]
 #[derive(Clone, Copy)]
 pub struct DmPolicy<'a> {
-    /// The content octets of its identifier.
+    /// The content octets of the policy's OID.
     pub identifier: &'a [u8],
     /// The encodings of its qualifiers, one after another.
     pub qualifiers: &'a [u8],
 }
 
-/// What is said of a policy.
+/// A qualifier of a policy.
 #[repr(C)]
 #[derive(Clone, Copy)]
 pub struct DmPolicyQualifier<'a> {
-    /// The content octets of the identifier of its type.
+    /// The content octets of the OID of its type.
     pub identifier: &'a [u8],
-    /// Its value. Its content isn't read.
+    /// The value. Its content isn't read.
     pub value: DmAny<'a>,
 }
 
-/// Writes a policy that was taken. Returns 1, or 0 if there is none.
+/// Writes a policy. Returns 1, or 0 if there is none.
 pub fn write_policy<'a>(found: Option<PolicyInformation<'a>>, policy: &mut DmPolicy<'a>) -> u32
     ensures { Taken IsPolicy found.entry policy.old policy.new result }
 {
@@ -41,7 +41,7 @@ pub fn write_policy<'a>(found: Option<PolicyInformation<'a>>, policy: &mut DmPol
     }
 }
 
-/// The fields of a policy.
+/// The C struct of a policy.
 fn policy_fields<'a>(found: PolicyInformation<'a>) -> DmPolicy<'a>
     ensures { HasPolicy (policy_of found.entry) result }
 {
@@ -51,7 +51,7 @@ fn policy_fields<'a>(found: PolicyInformation<'a>) -> DmPolicy<'a>
     }
 }
 
-/// Writes a qualifier that was taken. Returns 1, or 0 if there is none.
+/// Writes a qualifier. Returns 1, or 0 if there is none.
 pub fn write_qualifier<'a>(
     found: Option<PolicyQualifierInfo<'a>>,
     qualifier: &mut DmPolicyQualifier<'a>,

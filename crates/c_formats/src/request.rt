@@ -4,8 +4,8 @@ ghost use Rattle.c_formats.specs.FieldNumbers.{request_field_number};
 ghost use Rattle.c_formats.specs.Items.{Taken, left};
 ghost use Rattle.c_formats.specs.Requests.{HasRequest, IsAttribute, IsExtensions, IsRequest, request_fault};
 ghost use Rattle.c_values.specs.Faults.{Written, value_fault};
-ghost use Rattle.der_request.specs.Requests.{attribute as attribute_format, attribute_of, request_of};
-ghost use Rattle.der_x509.specs.Lists.{YieldsNext};
+ghost use Rattle.x509_keys.specs.Request.Requests.{attribute as attribute_format, attribute_of, request_of};
+ghost use Rattle.x509.specs.Lists.{YieldsNext};
 
 use crate::sequences::after_sequence;
 use c_values::fault::{DmFault, FIRST_REQUEST_FIELD, field_fault, no_fault};
@@ -13,40 +13,40 @@ use c_values::octets::DmOctets;
 use c_values::parts::{DmAlgorithm, DmBits, algorithm, bits, identifier_octets};
 use der_base::error::BerError;
 use der_cursor::Refusal;
-use der_request::{Attribute, Attributes, CertificationRequest, Field, RequestRefusal};
-use der_x509::Extensions;
+use x509::Extensions;
+use x509_keys::request::{Attribute, Attributes, CertificationRequest, Field, RequestRefusal};
 
-/// A request for a certificate. Octets are slices of the input.
+/// A certification request (CSR). Octets are slices of the input.
 #[repr(C)]
 #[derive(Clone, Copy)]
 pub struct DmRequest<'a> {
-    /// The octets that are signed: the encoding of a CertificationRequestInfo.
+    /// The signed octets: the encoding of a CertificationRequestInfo.
     pub info: &'a [u8],
     /// The encodings of the subject's relative names, one after another.
     pub subject: &'a [u8],
-    /// The algorithm that the subject's key is for.
+    /// The algorithm of the subject's public key.
     pub key_algorithm: DmAlgorithm<'a>,
-    /// That key.
+    /// The subject's public key.
     pub key: DmBits<'a>,
     /// The encodings of the attributes, one after another.
     pub attributes: &'a [u8],
-    /// The algorithm that `info` is signed by.
+    /// The algorithm of the signature.
     pub signature_algorithm: DmAlgorithm<'a>,
     /// The signature, which isn't verified.
     pub signature: DmBits<'a>,
 }
 
-/// An attribute of a request.
+/// An attribute of a CSR.
 #[repr(C)]
 #[derive(Clone, Copy)]
 pub struct DmRequestAttribute<'a> {
-    /// The content octets of its type, an OBJECT IDENTIFIER.
+    /// The content octets of the type's OID.
     pub identifier: &'a [u8],
-    /// The encodings of its values, one after another.
+    /// The encodings of the values, one after another.
     pub values: &'a [u8],
 }
 
-/// Writes a request that was read, or returns the fault.
+/// Writes a CSR, or returns the fault.
 pub fn write<'a>(
     found: Result<CertificationRequest<'a>, RequestRefusal>,
     request: &mut DmRequest<'a>,
@@ -62,7 +62,7 @@ pub fn write<'a>(
     }
 }
 
-/// The fields of a request.
+/// The C struct of a CSR.
 fn fields<'a>(found: &CertificationRequest<'a>) -> DmRequest<'a>
     ensures { HasRequest (request_of found.now) result }
 {
@@ -85,7 +85,7 @@ fn field_number(field: Field) -> u32
     FIRST_REQUEST_FIELD + field as u32
 }
 
-/// Writes an attribute that was taken. Returns 1, or 0 if there is none.
+/// Writes an attribute. Returns 1, or 0 if there is none.
 pub fn write_attribute<'a>(
     found: Option<Attribute<'a>>,
     attribute: &mut DmRequestAttribute<'a>,
@@ -104,7 +104,7 @@ pub fn write_attribute<'a>(
     }
 }
 
-/// Takes the next attribute.
+/// Takes the next attribute from the list.
 pub fn next_attribute<'a>(attributes: &mut DmOctets<'a>) -> Option<Attribute<'a>>
     ensures { YieldsNext left attribute_of attribute_format attributes.old result attributes.new }
 {
@@ -118,7 +118,7 @@ pub fn next_attribute<'a>(attributes: &mut DmOctets<'a>) -> Option<Attribute<'a>
     Some(attribute)
 }
 
-/// Writes extensions that are asked for, or returns the fault.
+/// Writes requested extensions, or returns the fault.
 pub fn write_extensions<'a>(
     found: Result<Extensions<'a>, Refusal<BerError>>,
     extensions: &mut DmOctets<'a>,

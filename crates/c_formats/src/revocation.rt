@@ -1,4 +1,4 @@
-//! Values of extensions of lists of revoked certificates and of their entries (RFC 5280 5.2, 5.3).
+//! Values of extensions of CRLs and of their entries (RFC 5280 5.2, 5.3).
 ghost use Rattle.c_formats.specs.RevokedLists.{HasIssuingPoint, IsIssuingPoint};
 ghost use Rattle.c_values.specs.Cursors.{IsTime};
 ghost use Rattle.c_values.specs.Faults.{Written, value_fault};
@@ -14,28 +14,27 @@ use der_base::time::ASN1DateTime;
 use der_cursor::Refusal;
 use der_extensions::IssuingDistributionPoint;
 
-/// Which certificates a list is about (5.2.5). Octets are slices of the value. One of the two names is empty, or both
-/// are.
+/// The scope of a CRL (RFC 5280 5.2.5). Octets are slices of the value. At least one of the two names is empty.
 #[repr(C)]
 #[derive(Clone, Copy)]
 pub struct DmIssuingDistributionPoint<'a> {
-    /// The encodings of its general names, one after another.
+    /// The encodings of the general names of its fullName, one after another.
     pub full_name: &'a [u8],
-    /// The encodings of the attributes of a relative name, which follows the name of the issuer.
+    /// The encodings of the attributes of a name relative to the issuer's, one after another.
     pub relative_name: &'a [u8],
-    /// A bit for each reason of revocation that the list has.
+    /// A bit for each reason of revocation that the CRL covers.
     pub reasons: DmBits<'a>,
-    /// Whether it has only certificates of end entities, 0 or 1.
+    /// 1 if the CRL has only certificates of end entities, else 0.
     pub only_contains_user_certs: u32,
-    /// Whether it has only those of authorities, 0 or 1.
+    /// 1 if the CRL has only certificates of CAs, else 0.
     pub only_contains_ca_certs: u32,
-    /// Whether it has those of other issuers, 0 or 1.
+    /// 1 if the CRL has certificates of other issuers, else 0.
     pub indirect_crl: u32,
-    /// Whether it has only attribute certificates, 0 or 1.
+    /// 1 if the CRL has only attribute certificates, else 0.
     pub only_contains_attribute_certs: u32,
 }
 
-/// Writes the value of an IssuingDistributionPoint that was read, or returns the fault.
+/// Writes an IssuingDistributionPoint, or returns the fault.
 pub fn write_point<'a>(
     found: Result<IssuingDistributionPoint<'a>, Refusal<BerError>>,
     point: &mut DmIssuingDistributionPoint<'a>,
@@ -51,7 +50,7 @@ pub fn write_point<'a>(
     }
 }
 
-/// The fields of a point.
+/// The C struct of an IssuingDistributionPoint.
 fn point_fields<'a>(found: IssuingDistributionPoint<'a>) -> DmIssuingDistributionPoint<'a>
     ensures { HasIssuingPoint (issuing_point_of found.entry) result }
 {
@@ -67,7 +66,7 @@ fn point_fields<'a>(found: IssuingDistributionPoint<'a>) -> DmIssuingDistributio
     }
 }
 
-/// Writes the value of an InvalidityDate that was read, or returns the fault.
+/// Writes an InvalidityDate, or returns the fault.
 pub fn write_date(found: Result<ASN1DateTime, Refusal<BerError>>, date: &mut DmTime) -> DmFault
     ensures { Written IsTime value_fault found date.old date.new result }
 {

@@ -1,12 +1,12 @@
-//! Lists of revoked certificates (RFC 5280 5.1).
+//! CRLs (RFC 5280 5.1).
 ghost use Rattle.std.specs.Prelude.{◌≡◌, []};
 ghost use Rattle.std.specs.Option.{option_map, unwrap_or};
 ghost use Rattle.c_formats.specs.FieldNumbers.{list_field_number};
 ghost use Rattle.c_formats.specs.Items.{Taken, left};
 ghost use Rattle.c_formats.specs.RevokedLists.{HasList, IsList, IsReason, IsRevoked, list_fault};
 ghost use Rattle.c_values.specs.Faults.{Written, value_fault};
-ghost use Rattle.crl_reader.specs.Lists.{certificate_list_of, revoked_certificate, revoked_of};
-ghost use Rattle.der_x509.specs.Lists.{YieldsNext};
+ghost use Rattle.x509.specs.Crl.Lists.{certificate_list_of, revoked_certificate, revoked_of};
+ghost use Rattle.x509.specs.Lists.{YieldsNext};
 
 use crate::sequences::after_sequence;
 use c_values::element::bit;
@@ -15,19 +15,19 @@ use c_values::octets::DmOctets;
 use c_values::parts::{
     DmAlgorithm, DmBits, DmMoment, algorithm, bits, moment, optional_moment, version_number,
 };
-use crl_reader::{
-    CertificateList, Field, ListRefusal, Reason, RevokedCertificate, RevokedCertificates,
-};
 use der_base::error::BerError;
 use der_cursor::Refusal;
+use x509::crl::{
+    CertificateList, Field, ListRefusal, Reason, RevokedCertificate, RevokedCertificates,
+};
 
-/// A list of revoked certificates. Octets are slices of the input.
+/// A CRL. Octets are slices of the input.
 #[repr(C)]
 #[derive(Clone, Copy)]
 pub struct DmCertificateList<'a> {
-    /// The octets that are signed: the encoding of a TBSCertList.
+    /// The signed octets: the encoding of a TBSCertList.
     pub tbs: &'a [u8],
-    /// The algorithm that is signed with the rest.
+    /// The signed algorithm identifier.
     pub signature: DmAlgorithm<'a>,
     /// The encodings of the issuer's relative names, one after another.
     pub issuer: &'a [u8],
@@ -35,35 +35,35 @@ pub struct DmCertificateList<'a> {
     pub revoked: &'a [u8],
     /// The encodings of the extensions, one after another.
     pub extensions: &'a [u8],
-    /// The algorithm that `tbs` is signed by.
+    /// The algorithm of the signature.
     pub signature_algorithm: DmAlgorithm<'a>,
     /// The signature, which isn't verified.
     pub signature_value: DmBits<'a>,
-    /// When the list was issued.
+    /// When the CRL was issued.
     pub this_update: DmMoment,
-    /// When the next one will be, if it says so.
+    /// When the next CRL will be issued, if it is given.
     pub next_update: DmMoment,
     /// 1 or 2.
     pub version: u32,
-    /// Whether the field of the entries is there, 0 or 1.
+    /// 1 if the list of entries is there, else 0.
     pub has_revoked: u32,
 }
 
-/// A certificate that is revoked (5.1.2.6).
+/// A revoked certificate (RFC 5280 5.1.2.6).
 #[repr(C)]
 #[derive(Clone, Copy)]
 pub struct DmRevoked<'a> {
-    /// The content octets of its serial number, in two's complement.
+    /// The content octets of the serial number, in two's complement.
     pub serial_number: &'a [u8],
     /// The encodings of the entry's extensions, one after another.
     pub extensions: &'a [u8],
-    /// When it was revoked.
+    /// The date of revocation.
     pub date: DmMoment,
     /// 0.
     pub reserved: u32,
 }
 
-/// Writes a list that was read, or returns the fault.
+/// Writes a CRL, or returns the fault.
 pub fn write<'a>(
     found: Result<CertificateList<'a>, ListRefusal>,
     list: &mut DmCertificateList<'a>,
@@ -75,11 +75,18 @@ pub fn write<'a>(
             *list = fields(&found);
             no_fault()
         }
-        Err(e) => field_fault(field_number(e.field), e.refusal),
+        Err(e) => list_fault(e),
     }
 }
 
-/// The fields of a list.
+/// The fault of a CRL.
+pub fn list_fault(e: ListRefusal) -> DmFault
+    ensures { result ≡ list_fault e }
+{
+    field_fault(field_number(e.field), e.refusal)
+}
+
+/// The C struct of a CRL.
 fn fields<'a>(found: &CertificateList<'a>) -> DmCertificateList<'a>
     ensures { HasList (certificate_list_of found.now) result }
 {
@@ -99,7 +106,7 @@ fn fields<'a>(found: &CertificateList<'a>) -> DmCertificateList<'a>
     }
 }
 
-/// The octets of the entries, or none.
+/// The octets of the entries; empty if there are none.
 fn revoked_octets<'a>(revoked: Option<RevokedCertificates<'a>>) -> &'a [u8]
     ensures { result.now ≡ unwrap_or (option_map (λ r. r.octets.now) revoked.entry) [] }
 {
@@ -116,7 +123,7 @@ fn field_number(field: Field) -> u32
     FIRST_LIST_FIELD + field as u32
 }
 
-/// Writes the value of a CRLReason that was read, or returns the fault.
+/// Writes the number of a CRLReason, or returns the fault.
 pub fn write_reason(found: Result<Reason, Refusal<BerError>>, reason: &mut u32) -> DmFault
     ensures { Written IsReason value_fault found reason.old reason.new result }
 {
@@ -129,7 +136,7 @@ pub fn write_reason(found: Result<Reason, Refusal<BerError>>, reason: &mut u32) 
     }
 }
 
-/// Writes an entry that was taken. Returns 1, or 0 if there is none.
+/// Writes an entry. Returns 1, or 0 if there is none.
 pub fn write_entry<'a>(found: Option<RevokedCertificate<'a>>, entry: &mut DmRevoked<'a>) -> u32
     ensures { Taken IsRevoked found.entry entry.old entry.new result }
 {
@@ -147,7 +154,7 @@ pub fn write_entry<'a>(found: Option<RevokedCertificate<'a>>, entry: &mut DmRevo
     }
 }
 
-/// Takes the next entry.
+/// Takes the next entry from the list.
 pub fn next_entry<'a>(revoked: &mut DmOctets<'a>) -> Option<RevokedCertificate<'a>>
     ensures { YieldsNext left revoked_of revoked_certificate revoked.old result revoked.new }
 {

@@ -1,4 +1,4 @@
-//! Which names may be in certificates after this one in a path (RFC 5280 4.2.1.10).
+//! Name constraints (RFC 5280 4.2.1.10).
 ghost use Rattle.c_formats.specs.ExtensionLists.{HasSubtree, IsNameConstraints, IsSubtree};
 ghost use Rattle.c_formats.specs.Items.{Taken};
 ghost use Rattle.c_values.specs.Faults.{Written, value_fault};
@@ -11,33 +11,33 @@ use der_base::error::BerError;
 use der_cursor::Refusal;
 use der_extensions::{GeneralSubtree, NameConstraints};
 
-/// The value of a NameConstraints. Octets are slices of it.
+/// The value of a NameConstraints. Octets are slices of the value.
 #[repr(C)]
 #[derive(Clone, Copy)]
 pub struct DmNameConstraints<'a> {
-    /// The encodings of the subtrees where names have to be, one after another.
+    /// The encodings of the permitted subtrees, one after another.
     pub permitted: &'a [u8],
-    /// Those where names may not be.
+    /// The encodings of the excluded subtrees, one after another.
     pub excluded: &'a [u8],
 }
 
-/// The names below one.
+/// A subtree of names.
 #[repr(C)]
 #[derive(Clone, Copy)]
 pub struct DmSubtree<'a> {
-    /// That name.
+    /// The base of the subtree.
     pub base: DmGeneralName<'a>,
-    /// The distance from it of the first names.
+    /// The distance from the base where the subtree begins.
     pub minimum: u32,
-    /// That of the last names. 0 if there is none.
+    /// The distance from the base where the subtree ends; 0 if there is none.
     pub maximum: u32,
-    /// Whether there is a maximum, 0 or 1.
+    /// 1 if there is a maximum, else 0.
     pub has_maximum: u32,
     /// 0.
     pub reserved: u32,
 }
 
-/// Writes the value of a NameConstraints that was read, or returns the fault.
+/// Writes a NameConstraints, or returns the fault.
 pub fn write_constraints<'a>(
     found: Result<NameConstraints<'a>, Refusal<BerError>>,
     constraints: &mut DmNameConstraints<'a>,
@@ -56,7 +56,7 @@ pub fn write_constraints<'a>(
     }
 }
 
-/// Writes a subtree that was taken. Returns 1, or 0 if there is none.
+/// Writes a subtree. Returns 1, or 0 if there is none.
 pub fn write_subtree<'a>(found: Option<GeneralSubtree<'a>>, subtree: &mut DmSubtree<'a>) -> u32
     ensures { Taken IsSubtree found.entry subtree.old subtree.new result }
 {
@@ -69,7 +69,7 @@ pub fn write_subtree<'a>(found: Option<GeneralSubtree<'a>>, subtree: &mut DmSubt
     }
 }
 
-/// The fields of a subtree.
+/// The C struct of a subtree.
 fn subtree_fields<'a>(found: GeneralSubtree<'a>) -> DmSubtree<'a>
     ensures { HasSubtree found.entry result }
 {

@@ -22,39 +22,39 @@ use der_extensions::{
     OrganizationIdentifier, QcStatement, SignedCertificateTimestamps, TlsFeature,
 };
 
-/// What is stated of a qualified certificate (RFC 3739 3.2.6). Octets are slices of the value.
+/// A statement about a qualified certificate (RFC 3739 3.2.6). Octets are slices of the value.
 #[repr(C)]
 #[derive(Clone, Copy)]
 pub struct DmQcStatement<'a> {
-    /// The content octets of its identifier.
+    /// The content octets of the statement's OID.
     pub identifier: &'a [u8],
-    /// What it says. Its content isn't read.
+    /// The content of the statement, which isn't read further.
     pub info: DmAny<'a>,
-    /// Whether it says more than its identifier, 0 or 1.
+    /// 1 if there is more than the OID, else 0.
     pub has_info: u32,
     /// 0.
     pub reserved: u32,
 }
 
-/// In which register an organization is (EV Guidelines 9.8.2). Texts are slices of the value.
+/// The registration of an organization (EV Guidelines 9.8.2). Texts are slices of the value.
 #[repr(C)]
 #[derive(Clone, Copy)]
 pub struct DmOrganizationIdentifier<'a> {
-    /// The kind of the register, three characters.
+    /// The registration scheme, three characters.
     pub scheme: &'a [u8],
-    /// Its country, two characters.
+    /// The country of the register, two characters.
     pub country: &'a [u8],
-    /// Its state or province.
+    /// The state or province of the register.
     pub state_or_province: &'a [u8],
-    /// The number of the organization in it, in UTF-8.
+    /// The organization's number in the register, in UTF-8.
     pub reference: &'a [u8],
-    /// Whether there is a state or province, 0 or 1.
+    /// 1 if there is a state or province, else 0.
     pub has_state_or_province: u32,
     /// 0.
     pub reserved: u32,
 }
 
-/// Writes an SCT list that was read, or returns the fault.
+/// Writes an SCT list, or returns the fault.
 pub fn write_timestamps<'a>(
     found: Result<SignedCertificateTimestamps<'a>, Refusal<BerError>>,
     timestamps: &mut DmOctets<'a>,
@@ -70,7 +70,7 @@ pub fn write_timestamps<'a>(
     }
 }
 
-/// Writes a timestamp that was taken. Returns 1, or 0 if there is none.
+/// Writes a timestamp. Returns 1, or 0 if there is none.
 pub fn write_timestamp<'a>(found: Option<&'a [u8]>, timestamp: &mut DmOctets<'a>) -> u32
     ensures { Taken IsOctets found.entry timestamp.old timestamp.new result }
 {
@@ -83,7 +83,7 @@ pub fn write_timestamp<'a>(found: Option<&'a [u8]>, timestamp: &mut DmOctets<'a>
     }
 }
 
-/// Takes the next timestamp.
+/// Takes the next timestamp from the list.
 pub fn next_timestamp<'a>(timestamps: &mut DmOctets<'a>) -> Option<&'a [u8]>
     ensures { YieldsNext left (λ x. x.now) Vector timestamps.old result timestamps.new }
 {
@@ -97,7 +97,7 @@ pub fn next_timestamp<'a>(timestamps: &mut DmOctets<'a>) -> Option<&'a [u8]>
     Some(timestamp)
 }
 
-/// What follows a timestamp of so many octets. Their number, which is before them, has two (RFC 5246 4.3).
+/// The octets after a timestamp of `count` octets. The count is before them, in two octets (RFC 5246 4.3).
 fn behind<'a>(timestamps: &'a [u8], count: usize) -> &'a [u8]
     ensures { (w : List ℕ) → (rest : List ℕ) → Vector Der timestamps.now w rest → (length w ≡ count)
         → result.now ≡ rest }
@@ -111,7 +111,7 @@ fn behind<'a>(timestamps: &'a [u8], count: usize) -> &'a [u8]
     }
 }
 
-/// The fault of a value that has to be a NULL.
+/// The fault of a value that must be NULL.
 pub fn null_fault(found: Result<(), Refusal<BerError>>) -> DmFault
     ensures { Written IsNull value_fault found tt tt result }
 {
@@ -121,7 +121,7 @@ pub fn null_fault(found: Result<(), Refusal<BerError>>) -> DmFault
     }
 }
 
-/// Writes a feature that was taken. Returns 1, or 0 if there is none.
+/// Writes a TLS feature. Returns 1, or 0 if there is none.
 pub fn write_feature(found: Option<TlsFeature>, number: &mut u32) -> u32
     ensures { Taken IsFeature found number.old number.new result }
 {
@@ -134,7 +134,7 @@ pub fn write_feature(found: Option<TlsFeature>, number: &mut u32) -> u32
     }
 }
 
-/// Writes a statement that was taken. Returns 1, or 0 if there is none.
+/// Writes a statement. Returns 1, or 0 if there is none.
 pub fn write_statement<'a>(found: Option<QcStatement<'a>>, statement: &mut DmQcStatement<'a>) -> u32
     ensures { Taken IsStatement found.entry statement.old statement.new result }
 {
@@ -147,7 +147,7 @@ pub fn write_statement<'a>(found: Option<QcStatement<'a>>, statement: &mut DmQcS
     }
 }
 
-/// The fields of a statement.
+/// The C struct of a statement.
 fn statement_fields<'a>(found: QcStatement<'a>) -> DmQcStatement<'a>
     ensures { HasStatement (statement_of found.entry) result }
 {
@@ -159,7 +159,7 @@ fn statement_fields<'a>(found: QcStatement<'a>) -> DmQcStatement<'a>
     }
 }
 
-/// Writes the value of a cabfOrganizationIdentifier that was read, or returns the fault.
+/// Writes a cabfOrganizationIdentifier, or returns the fault.
 pub fn write_organization<'a>(
     found: Result<OrganizationIdentifier<'a>, Refusal<BerError>>,
     identifier: &mut DmOrganizationIdentifier<'a>,
@@ -188,7 +188,7 @@ fn organization_fields<'a>(found: OrganizationIdentifier<'a>) -> DmOrganizationI
     }
 }
 
-/// The octets of a text, or none.
+/// The octets of a text; empty if there is none.
 fn text_octets<'a>(text: Option<&'a str>) -> &'a [u8]
     ensures { result.now ≡ unwrap_or (option_map (λ v. v.now) text.entry) [] }
 {

@@ -1,4 +1,4 @@
-//! What a reader of one value found, written for C.
+//! Writes values for C, or their faults.
 ghost use Rattle.c_formats.specs.ExtensionLists.{HasItems};
 ghost use Rattle.c_formats.specs.ExtensionValues.{IsOctets};
 ghost use Rattle.c_values.specs.Cursors.{IsSame};
@@ -26,7 +26,7 @@ pub fn write_list<'a, T: Drop>(
     }
 }
 
-/// Writes a value that C has too, or returns the fault.
+/// Writes a value as it is, or returns the fault.
 pub fn write_value<V: Copy>(found: Result<V, Refusal<BerError>>, value: &mut V) -> DmFault
     ensures { Written IsSame value_fault found value.old value.new result }
 {

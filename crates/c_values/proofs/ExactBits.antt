@@ -19,8 +19,7 @@ use Rattle.der_values.specs.declared.bits.BitString.{BitString}
 use Rattle.der_values.specs.Kinds.{bit_strings, leaf_tests}
 use Rattle.c_values.specs.declared.cursor.DmCursor.{DmCursor}
 use Rattle.c_values.specs.declared.fault.DmFault.{DmFault}
-use Rattle.c_values.specs.declared.parts.DmBits.{DmBits}
-use Rattle.c_values.specs.Cursors.{Finishes, IsBits, TestsUnusedBits, exact_bit_strings, unused_bits_tests}
+use Rattle.c_values.specs.Cursors.{Finishes, TestsUnusedBits, exact_bit_strings, unused_bits_tests}
 
 abbrev pub value_of : BitString → ℕ × List ℕ
 value_of v = (v.unused, v.octets.now)
@@ -62,7 +61,7 @@ module _ (r : Rules) (old : Cursor) where
   })
 
 -- a call in C stays after a refusal, wherever the cursor is
-pub finishes_there : (d : DmCursor) (old new : Cursor) (found : Result BitString (Refusal BerError)) (d' : DmCursor) (v v' : DmBits) (f : DmFault)
-    → Finishes IsBits d new found d' v v' f → Finishes IsBits d (left_at found old new) found d' v v' f
-finishes_there d old new (Ok x) d' v v' f h = h
-finishes_there d old new (Err e) d' v v' f h = h
+pub finishes_there : {T V : Type 0} (Is : T → V → Type 0) (d : DmCursor) (old new : Cursor) (found : Result T (Refusal BerError)) (d' : DmCursor) (v v' : V) (f : DmFault)
+    → Finishes Is d new found d' v v' f → Finishes Is d (left_at found old new) found d' v v' f
+finishes_there Is d old new (Ok x) d' v v' f h = h
+finishes_there Is d old new (Err e) d' v v' f h = h

@@ -1,5 +1,6 @@
 pub mod Alike
 pub mod ExactBits
+pub mod ExactNumbers
 pub mod Firsts
 pub mod Moments
 pub mod Puts

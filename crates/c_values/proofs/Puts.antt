@@ -1,7 +1,7 @@
 -- Texts that are put one behind the other.
 use Rattle.std.proofs.Common.{◌≡◌, ℕ, zero, suc, ◌+◌, ◌-◌, ◌^◌, ◌<◌, ◌≤◌, ◌⊎◌, min, List, [], ◌∷◌, ◌++◌, length, refl, sym, ap, ◌∙◌, arith, inl, inr, length-append}
-use Rattle.der_nodes.specs.Places.{overlay}
-use Rattle.der_nodes.proofs.Overlays.{overlay_none, overlay_more, overlay_behind}
+use Rattle.der_elements.specs.Check.Overlay.{overlay}
+use Rattle.der_elements.proofs.CheckLaws.Overlays.{overlay_none, overlay_more, overlay_behind}
 use Rattle.c_values.specs.Texts.{PutsSome, PutsText}
 
 length-overlay : (xs : List ℕ) (n : ℕ) (ys : List ℕ) → length (overlay xs n ys) ≡ length xs

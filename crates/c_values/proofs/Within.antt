@@ -5,12 +5,12 @@ use Rattle.std.proofs.lemmas.List.Elements.{All-nil, All-cons, All-append, All-m
 use Rattle.der_base.specs.declared.rules.Rules.{Rules}
 use Rattle.der_base.specs.Octets.{identifier}
 use Rattle.der_base.specs.Spelling.{end_marker}
-use Rattle.der_check.specs.Elements.{AreElements, IsElement, none, one_more, primitive, constructed, indefinite}
-use Rattle.der_check.specs.Listing.{listed, listed_one}
-use Rattle.der_nodes.specs.declared.element.Element.{Element}
-use Rattle.der_nodes.specs.Places.{overlay}
-use Rattle.der_walk.specs.declared.cause.Cause.{Cause}
-use Rattle.der_walk.specs.declared.cause.Cause.TheVariants as causes
+use Rattle.der_elements.specs.Check.Elements.{AreElements, IsElement, none, one_more, primitive, constructed, indefinite}
+use Rattle.der_elements.specs.Check.Listing.{listed, listed_one}
+use Rattle.der_elements.specs.declared.check.element.Element.{Element}
+use Rattle.der_elements.specs.Check.Overlay.{overlay}
+use Rattle.der_elements.specs.declared.cause.Cause.{Cause}
+use Rattle.der_elements.specs.declared.cause.Cause.TheVariants as causes
 use Rattle.c_values.specs.declared.element.DmElement.{DmElement}
 use Rattle.c_values.specs.Elements.{slot_of}
 use Rattle.c_values.specs.Laws.{IsWithin, ElementsLieWithin}

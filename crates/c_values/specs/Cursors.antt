@@ -13,12 +13,13 @@ use Rattle.der_base.specs.LeafRefusal.{Test, IsFirstRefusal, NoneHolds, refuse}
 use Rattle.der_base.specs.Refusal.{refusal, der_constraint, invalid_value}
 use Rattle.der_cursor.specs.declared.cursor.Cursor.{Cursor}
 use Rattle.der_cursor.specs.declared.refusal.Refusal.{Refusal}
-use Rattle.der_cursor.specs.Cursors.{end_of, is_inside, octets_left, place_of, rules_of}
+use Rattle.der_cursor.specs.Cursors.{IsTagged, class_wanted, end_of, is_inside, number_wanted, octets_left, place_of}
+use Rattle.der_cursor.specs.Cursors.{rules_of}
 use Rattle.der_cursor.specs.Elements.{element_of}
 use Rattle.der_values.specs.declared.bits.BitString.{BitString}
 use Rattle.der_values.specs.declared.identifier.ObjectIdentifier.{ObjectIdentifier}
-use Rattle.der_values.specs.Kinds.{Kind, bit_strings, borrowed_octets}
-use Rattle.der_x509.specs.Certificates.{bits_of}
+use Rattle.der_values.specs.Kinds.{Decodes, Kind, bit_strings, borrowed_octets}
+use Rattle.x509.specs.Certificates.{bits_of}
 use Rattle.c_values.specs.declared.any.DmAny.{DmAny}
 use Rattle.c_values.specs.declared.cursor.DmCursor.{DmCursor}
 use Rattle.c_values.specs.declared.fault.DmFault.{DmFault}
@@ -47,6 +48,11 @@ pub record Continues (d : DmCursor) (c : Cursor) : Type 0 where
   pub inside : is_inside c ≡ false
   pub rules : rules_of c ≡ rules_in d.rules
   pub implicit : c.implicit ≡ implicit_of d.implicit d.number
+
+-- the same before an ENUMERATED, which reads as an INTEGER with its tag (X.690 8.4)
+abbrev pub ContinuesEnumerated : DmCursor → Cursor → Type 0
+ContinuesEnumerated d c = (b : Cursor) × Continues d b
+    × IsTagged (class_wanted b.implicit) (number_wanted b.implicit 10) b c
 
 -- the same list, where a cursor left these octets
 pub record GoesOn (old : DmCursor) (c : Cursor) (new : DmCursor) : Type 0 where
@@ -102,6 +108,21 @@ IsOctets x d = d.octets.now ≡ x.now
 abbrev pub IsIdentifier : ObjectIdentifier → DmOctets → Type 0
 IsIdentifier x d = d.octets.now ≡ borrowed_octets x
 
+-- the refusal of the element at the start of an input
+abbrev pub refused_at_start : BerError → Refusal BerError
+refused_at_start e = record { offset = 0; list_end = None; reason = Error e }
+
+-- what content octets have, which are those of this element
+abbrev pub RefusesAtStart : {T : Type 0} → Result T BerError → Result T (Refusal BerError) → Type 0
+RefusesAtStart (Ok x) result = result ≡ Ok x
+RefusesAtStart (Err e) result = result ≡ Err (refused_at_start e)
+
+-- The content octets that were read there are decoded as the kind says.
+abbrev pub DecodesFound : {T V : Type 0} → (T → V) → Kind V → Result (Bor (List ℕ)) (Refusal BerError)
+    → Result T (Refusal BerError) → Type 0
+DecodesFound value k (Err e) result = result ≡ Err e
+DecodesFound {T} value k (Ok w) result = (x : Result T BerError) × Decodes value k w.now x × RefusesAtStart x result
+
 -- At most seven bits are unused (X.690 8.6.2.2), and none of no octet (8.6.2.3). The refusals are those by DER.
 abbrev pub unused_bits_tests : List ℕ → List Test
 unused_bits_tests w =
@@ -119,7 +140,7 @@ abbrev pub TestsUnusedBits : Result BitString (Refusal BerError) → Result BitS
 TestsUnusedBits (Err e) result = result ≡ Err e
 TestsUnusedBits (Ok b) (Ok x) = NoneHolds (unused_bits_tests (b.unused ∷ b.octets.now)) × (x ≡ b)
 TestsUnusedBits (Ok b) (Err e) = (x : BerError) × IsFirstRefusal (unused_bits_tests (b.unused ∷ b.octets.now)) (refusal x)
-    × (e ≡ record { offset = 0; list_end = None; reason = Error x })
+    × (e ≡ refused_at_start x)
 
 abbrev pub IsBits : BitString → DmBits → Type 0
 IsBits x d = bits_in d ≡ bits_numbers (Some (bits_of x))

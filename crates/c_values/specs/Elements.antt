@@ -7,7 +7,7 @@ use Rattle.der_base.specs.declared.header.Length.{Length}
 use Rattle.der_base.specs.declared.header.Length.TheVariants.{Definite, Indefinite}
 pub use Rattle.der_base.specs.Octets.{class_number}
 use Rattle.der_base.specs.Header.{class_of, is_constructed, length_of, number_of}
-use Rattle.der_nodes.specs.declared.element.Element.{Element}
+use Rattle.der_elements.specs.declared.check.element.Element.{Element}
 use Rattle.c_values.specs.declared.element.DmElement.{DmElement}
 
 abbrev pub bit : Bool → ℕ

@@ -12,10 +12,10 @@ use Rattle.der_contents.specs.declared.content_error.ContentError.{ContentError}
 use Rattle.der_contents.specs.declared.content_error.ContentError.TheVariants as contents
 use Rattle.der_input.specs.declared.error.FormError.{FormError}
 use Rattle.der_input.specs.declared.error.FormError.TheVariants as forms
-use Rattle.der_walk.specs.declared.cause.Cause.{Cause}
-use Rattle.der_walk.specs.declared.cause.Cause.TheVariants as causes
-use Rattle.der_x509.specs.declared.rules.Rule.{Rule}
-use Rattle.der_x509.specs.declared.rules.Rule.TheVariants as rules
+use Rattle.der_elements.specs.declared.cause.Cause.{Cause}
+use Rattle.der_elements.specs.declared.cause.Cause.TheVariants as causes
+use Rattle.x509.specs.declared.rules.Rule.{Rule}
+use Rattle.x509.specs.declared.rules.Rule.TheVariants as rules
 
 -- of a rule of DER beyond those of BER
 abbrev pub constraint_number : DerConstraint → ℕ

@@ -9,7 +9,7 @@ use Rattle.der_base.specs.declared.error.Needed.{Needed}
 use Rattle.der_base.specs.declared.error.Needed.TheVariants.{Unknown, Size}
 use Rattle.der_base.specs.Refusal.{refusal}
 use Rattle.der_cursor.specs.declared.refusal.Refusal.{Refusal}
-use Rattle.der_x509.specs.declared.rules.Rule.{Rule}
+use Rattle.x509.specs.declared.rules.Rule.{Rule}
 use Rattle.c_values.specs.declared.fault.DmFault.{DmFault}
 use Rattle.c_values.specs.Elements.{bit}
 use Rattle.c_values.specs.ErrorNumbers.{refusal_number, rule_number}

@@ -14,12 +14,12 @@ use Rattle.der_base.specs.Refusal.{refusal}
 use Rattle.der_canon.specs.declared.error.NotCanonical.{NotCanonical}
 use Rattle.der_canon.specs.Errors.{IsErrorOf}
 use Rattle.der_canon.specs.Written.{KeepsDer, WritesDer}
-use Rattle.der_check.specs.Listing.{ListsElement}
-use Rattle.der_check.specs.Readers.{BeginsWithElement}
-use Rattle.der_walk.specs.declared.cause.Cause.{Cause}
-use Rattle.der_walk.specs.declared.cause.Cause.TheVariants.{Cut}
-use Rattle.der_walk.specs.declared.refusal.Refusal.{Refusal}
-use Rattle.der_walk.specs.FirstFault.{IsFirstFaultOf}
+use Rattle.der_elements.specs.Check.Listing.{ListsElement}
+use Rattle.der_elements.specs.Check.Readers.{BeginsWithElement}
+use Rattle.der_elements.specs.declared.cause.Cause.{Cause}
+use Rattle.der_elements.specs.declared.cause.Cause.TheVariants.{Cut}
+use Rattle.der_elements.specs.declared.refusal.Refusal.{Refusal}
+use Rattle.der_elements.specs.FirstFault.{IsFirstFaultOf}
 use Rattle.c_values.specs.declared.element.DmElement.{DmElement}
 use Rattle.c_values.specs.declared.outcome.DmOutcome.{DmOutcome}
 use Rattle.c_values.specs.Elements.{first_slot, slot_of}

@@ -1,10 +1,10 @@
 -- Parts of certificates as C sees them.
 use Rattle.std.specs.Prelude.{ℕ, pos, Option, Some, None, List, []}
-use Rattle.der_x509.specs.declared.certificate.Version.{Version}
-use Rattle.der_x509.specs.declared.certificate.Version.TheVariants.{V1, V2, V3}
-use Rattle.der_x509.specs.declared.time.Time.{Time}
-use Rattle.der_x509.specs.declared.time.Time.TheVariants.{Generalized, Utc}
-use Rattle.der_x509.specs.Certificates.{Algorithm}
+use Rattle.x509.specs.declared.certificate.Version.{Version}
+use Rattle.x509.specs.declared.certificate.Version.TheVariants.{V1, V2, V3}
+use Rattle.x509.specs.declared.time.Time.{Time}
+use Rattle.x509.specs.declared.time.Time.TheVariants.{Generalized, Utc}
+use Rattle.x509.specs.Certificates.{Algorithm}
 use Rattle.c_values.specs.declared.parts.DmAlgorithm.{DmAlgorithm}
 use Rattle.c_values.specs.declared.parts.DmBits.{DmBits}
 use Rattle.c_values.specs.declared.parts.DmMoment.{DmMoment}

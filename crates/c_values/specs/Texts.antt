@@ -1,7 +1,7 @@
 -- Texts in a buffer of the caller's.
 use Rattle.std.specs.Prelude.{◌≡◌, ℕ, ◌+◌, ◌-◌, ◌^◌, min, List, length, Option, Some, None}
 use Rattle.der_base.specs.Refusal.{wrong_value}
-use Rattle.der_nodes.specs.Places.{overlay}
+use Rattle.der_elements.specs.Check.Overlay.{overlay}
 use Rattle.c_values.specs.ErrorNumbers.{refusal_number}
 
 -- The text is written from a place on, as far as there is room, and `end` is the place after it, room or not; it stops

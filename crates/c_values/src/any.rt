@@ -1,4 +1,4 @@
-//! Elements of any type as C sees them.
+//! Elements of any type for C.
 ghost use Rattle.std.specs.Option.{option_map};
 ghost use Rattle.c_values.specs.AnyElements.{HasAny, HasAnyOrNone};
 ghost use Rattle.der_cursor.specs.Elements.{element_of};
@@ -16,13 +16,13 @@ pub struct DmAny<'a> {
     pub number: u32,
     /// The class, from 0 to 3.
     pub tag_class: u8,
-    /// Whether it is constructed, 0 or 1.
+    /// 1 if constructed, else 0.
     pub constructed: u8,
     /// 0.
     pub reserved: u16,
 }
 
-/// An element.
+/// The C struct of an element.
 pub fn any_fields<'a>(found: &Any<'a>) -> DmAny<'a>
     ensures { HasAny (element_of found.now) result }
 {
@@ -35,7 +35,7 @@ pub fn any_fields<'a>(found: &Any<'a>) -> DmAny<'a>
     }
 }
 
-/// An element that may be absent.
+/// The C struct of an optional element.
 pub fn optional_any<'a>(found: Option<Any<'a>>) -> DmAny<'a>
     ensures { HasAnyOrNone (option_map element_of found.entry) result }
 {

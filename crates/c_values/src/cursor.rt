@@ -1,35 +1,37 @@
-//! Fields of an input, one after another: a cursor of der_cursor as C keeps it.
+//! A cursor of der_cursor for C: reads the fields of an input, one after another.
 ghost use Rattle.std.specs.Prelude.{◌≡◌};
-ghost use Rattle.c_values.specs.Cursors.{Continues, Finishes, GoesOn, IsSame, moved_fault, rules_in};
+ghost use Rattle.c_values.specs.Cursors.{Continues, ContinuesEnumerated, Finishes, GoesOn, IsSame, moved_fault};
+ghost use Rattle.c_values.specs.Cursors.{rules_in};
 
 use crate::fault::{DmFault, field_fault, no_fault};
 use crate::state::implicit_of;
 use der_base::error::BerError;
+use der_base::header::{Class, Tag};
 use der_base::rules::Rules;
 use der_cursor::{Cursor, Refusal};
 
-/// The octets of an input, or of the content of an element, that aren't read yet.
+/// The octets, of the input or of an element's content, that aren't read yet.
 #[repr(C)]
 #[derive(Clone, Copy)]
 pub struct DmCursor<'a> {
-    /// The octets. For C these are two fields, a pointer and the length.
+    /// The octets. In C these are two fields, a pointer and the length.
     pub left: &'a [u8],
     /// The number of octets of the input before them.
     pub offset: usize,
-    /// By which rules they are read: 0 by BER, else by DER.
+    /// 0 to read by BER, else DER.
     pub rules: u32,
-    /// Whether they are the content of an element: 0 if not, else 1.
+    /// 1 if they are the content of an element, else 0.
     pub is_inside: u32,
-    /// Whether the next element has an implicit tag: 0 if not, else its class from 1 to 4.
+    /// The class of the next element's implicit tag, from 1 to 4; 0 if there is none.
     pub implicit: u32,
     /// The number of that tag.
     pub number: u32,
 }
 
-/// The number of the error of an element that runs past the end of the list that it is in.
+/// The number of the error if an element runs past the end of its list.
 const PAST_END: u32 = 17;
 
-/// A cursor at the start of the octets that are left, before an element with this implicit tag.
+/// A cursor of der_cursor over the octets left, at offset 0, with this implicit tag.
 pub fn resume<'a>(cursor: &DmCursor<'a>) -> Cursor<'a>
     ensures { Continues cursor.now result }
 {
@@ -40,7 +42,18 @@ pub fn resume<'a>(cursor: &DmCursor<'a>) -> Cursor<'a>
     fields
 }
 
-/// The rules with a number.
+/// The same for an ENUMERATED, which is read as an INTEGER with its tag (X.690 8.4).
+pub fn resume_enumerated<'a>(cursor: &DmCursor<'a>) -> Cursor<'a>
+    ensures { ContinuesEnumerated cursor.now result }
+{
+    let mut fields = resume(cursor);
+    if implicit_of(cursor.implicit, cursor.number).is_none() {
+        let _ = fields.implicit_of(Class::Universal, Tag::Enumerated.0);
+    }
+    fields
+}
+
+/// The rules with this number.
 fn rules_of(number: u32) -> Rules
     ensures { result ≡ rules_in number }
 {
@@ -50,7 +63,7 @@ fn rules_of(number: u32) -> Rules
     }
 }
 
-/// Goes on with the octets that a cursor left.
+/// Moves to where `after` is.
 pub(crate) fn advance<'a>(cursor: &mut DmCursor<'a>, after: Cursor<'a>)
     ensures { GoesOn cursor.old after.entry cursor.new }
 {
@@ -61,8 +74,7 @@ pub(crate) fn advance<'a>(cursor: &mut DmCursor<'a>, after: Cursor<'a>)
     cursor.implicit = 0;
 }
 
-/// The fault of the next element. Inside a list an element that is cut short is an error, since no further octets mend
-/// it.
+/// The fault of the next element. In a list, a cut element is an error, because no more octets can follow.
 pub(crate) fn moved_fault(cursor: &DmCursor<'_>, e: Refusal<BerError>) -> DmFault
     ensures { result ≡ moved_fault cursor.now e }
 {
@@ -83,7 +95,7 @@ pub(crate) fn moved_fault(cursor: &DmCursor<'_>, e: Refusal<BerError>) -> DmFaul
     }
 }
 
-/// Writes what was read, and goes on after it; or returns the fault, and the cursor stays.
+/// Writes the value and moves after it; or returns the fault, and the cursor stays.
 pub fn finish<'a, V: Copy>(
     cursor: &mut DmCursor<'a>,
     after: Cursor<'a>,

@@ -1,30 +1,30 @@
-//! Elements as C sees them.
+//! Elements for C.
 ghost use Rattle.std.specs.Prelude.{◌≡◌, ◌-◌};
 ghost use Rattle.c_values.specs.Elements.{bit, class_number, first_slot, is_definite, marker_size};
 ghost use Rattle.der_base.specs.Header.{length_of};
 
 use der_base::header::{Class, Header, Length};
-use der_nodes::{Element, Slot};
+use der_elements::check::{Element, Slot};
 
-/// An element of an input: the fields of `der_nodes::Element`, as numbers.
+/// An element of an input: the fields of `der_elements::check::Element` as numbers.
 #[repr(C)]
 #[derive(Clone, Copy)]
 pub struct DmElement {
-    /// Where the identifier octets begin.
+    /// The offset of the identifier octets.
     pub header: usize,
-    /// Where the content octets begin.
+    /// The offset of the content octets.
     pub content: usize,
-    /// Where the content octets end.
+    /// The offset after the content octets.
     pub end: usize,
-    /// How many of the elements that follow are inside, at any depth.
+    /// The number of following elements that are inside it, at any depth.
     pub inside: usize,
     /// The tag number.
     pub number: u32,
     /// The class, from 0 to 3.
     pub tag_class: u8,
-    /// Whether it is constructed, 0 or 1.
+    /// 1 if constructed, else 0.
     pub constructed: u8,
-    /// Whether its length is definite, 0 or 1.
+    /// 1 if the length is definite, else 0.
     pub definite: u8,
     /// 0.
     pub reserved: u8,
@@ -51,8 +51,7 @@ impl Slot for DmElement {
     }
 }
 
-/// The element at the start of an input, with no other inside. It has so many octets, this header, and so many
-/// content octets.
+/// The first element of an input, with none inside. It has `length` octets, `size` of them content octets.
 pub(crate) fn first_element(length: usize, header: &Header<'_>, size: usize) -> DmElement
     ensures { result ≡ first_slot header.now (length - marker_size header.now - size) size }
 {
@@ -72,14 +71,14 @@ pub(crate) fn first_element(length: usize, header: &Header<'_>, size: usize) -> 
     }
 }
 
-/// How many octets follow a content: those of an end marker after an indefinite length.
+/// The number of end-of-contents octets after a content: 2 if the length is indefinite, else 0.
 fn marker_size(header: &Header<'_>) -> usize
     ensures { result ≡ marker_size header.now }
 {
     if is_definite(header) { 0 } else { 2 }
 }
 
-/// Whether a header has a definite length.
+/// Returns whether a header has a definite length.
 fn is_definite(header: &Header<'_>) -> bool
     ensures { result ≡ is_definite (length_of header.now) }
 {

@@ -1,34 +1,34 @@
-//! Texts of errors: those that the errors themselves have, without the values that they keep.
+//! Texts of errors, without the values that an error has.
 use crate::errors::{FIRST_CONSTRAINT, FIRST_CONTENT, FIRST_FORM, FIRST_RULE};
 use crate::fault::{
     CERTIFICATE, DmFault, FIRST_EC_FIELD, FIRST_ENCRYPTED_FIELD, FIRST_KEY_FIELD, FIRST_LIST_FIELD,
     FIRST_PUBLIC_FIELD, FIRST_REQUEST_FIELD, FIRST_RSA_FIELD, FIRST_RSA_PUBLIC_FIELD,
 };
 use arrayvec::ArrayString;
-use crl_reader::Field as ListField;
 use der_base::error::{BerError, DerConstraint};
 use der_base::header::Class;
 use der_base::rules::Rules;
 use der_contents::ContentError;
-use der_request::Field as RequestField;
-use der_walk::{Cause, TypeName};
-use der_x509::Field;
+use der_elements::{Cause, TypeName};
 use std::fmt;
 use std::fmt::Write;
+use x509::Field;
+use x509::crl::Field as ListField;
+use x509_keys::request::Field as RequestField;
 
-/// How many octets a text has at most.
+/// The most octets of a text.
 pub const LONGEST: usize = 160;
 
-/// The number of the error of an element that runs past the end of its list.
+/// The number of the error if an element runs past the end of its list.
 const PAST_END: u32 = 17;
 
-/// That of octets left over or missing.
+/// The number of the error if octets are left over or missing.
 const PARSER_FAULT: u32 = 18;
 
-/// That of an element with another tag than the expected one.
+/// The number of the error of an unexpected tag.
 const UNEXPECTED_TAG: u32 = 7;
 
-/// That of one with a tag of another class.
+/// The number of the error of an unexpected class.
 const UNEXPECTED_CLASS: u32 = 8;
 
 /// An error by its number.
@@ -43,7 +43,7 @@ pub fn words_of_error(error: u32) -> ArrayString<LONGEST> {
     words
 }
 
-/// The text of a fault of this input, with the tag that the element has, if it isn't the expected one.
+/// The text of a fault of this input, with the tag that was found if it is unexpected.
 pub fn words_with_tag(fault: &DmFault, input: &[u8]) -> ArrayString<LONGEST> {
     let mut words = words_of(fault);
     if let Some(name) = found_tag(fault, input) {
@@ -52,7 +52,7 @@ pub fn words_with_tag(fault: &DmFault, input: &[u8]) -> ArrayString<LONGEST> {
     words
 }
 
-/// The name of a universal type, or a tag of another class as ASN.1 writes it.
+/// The name of a universal type, or any other tag in the notation of ASN.1.
 pub fn words_of_tag(class: Class, number: u32) -> ArrayString<LONGEST> {
     let name = TypeName { class, number };
     let mut words = ArrayString::<LONGEST>::new();
@@ -60,7 +60,7 @@ pub fn words_of_tag(class: Class, number: u32) -> ArrayString<LONGEST> {
     words
 }
 
-/// The tag of the element that a fault is about, if it isn't the expected one.
+/// The tag of the element of a fault, if it is unexpected.
 fn found_tag(fault: &DmFault, input: &[u8]) -> Option<TypeName> {
     if fault.error != UNEXPECTED_TAG && fault.error != UNEXPECTED_CLASS {
         return None;
@@ -94,7 +94,7 @@ impl fmt::Display for DmFault {
     }
 }
 
-/// Writes what is wrong.
+/// Writes the reason.
 fn write_reason<W: fmt::Write>(f: &mut fmt::Formatter<W>, fault: &DmFault) -> fmt::Result {
     match fault.error {
         0 => f.write_str("the input is cut short")?,
@@ -111,7 +111,7 @@ fn write_reason<W: fmt::Write>(f: &mut fmt::Formatter<W>, fault: &DmFault) -> fm
     write!(f, ", needs {}", fault.needed)
 }
 
-/// Writes the name of the field with a number, if there is one.
+/// Writes the name of the field with this number, if there is one.
 fn write_field<W: fmt::Write>(f: &mut fmt::Formatter<W>, number: u32) -> fmt::Result {
     if let Some(field) = item(&FIELDS, CERTIFICATE, number) {
         return write!(f, "{field} ");
@@ -128,7 +128,7 @@ fn write_field<W: fmt::Write>(f: &mut fmt::Formatter<W>, number: u32) -> fmt::Re
     }
 }
 
-/// The name of the field of a key with a number.
+/// The name of the key field with this number.
 fn key_field(number: u32) -> Option<&'static str> {
     match item(&KEY_FIELDS, FIRST_KEY_FIELD, number) {
         Some(field) => Some(field),
@@ -175,7 +175,7 @@ impl fmt::Display for NumberedError {
     }
 }
 
-/// The error of a reader that has a number and keeps no value.
+/// The error with this number, if it has no values.
 fn error_with(number: u32) -> Option<BerError> {
     Some(match number {
         1 => BerError::BerTypeError,
@@ -194,7 +194,7 @@ fn error_with(number: u32) -> Option<BerError> {
     })
 }
 
-/// The cause of a fault that has a number and is no error of a reader.
+/// The cause with this number, if it isn't a reader's error.
 fn cause_with(number: u32) -> Option<Cause> {
     Some(match number {
         48 => Cause::NoEndMarker,
@@ -206,13 +206,13 @@ fn cause_with(number: u32) -> Option<Cause> {
     })
 }
 
-/// The item with a number, in a list of those that have the numbers from the first one on.
+/// The item with this number, in a list that is numbered from `first` on.
 fn item<T: Copy>(items: &[T], first: u32, number: u32) -> Option<T> {
     let index = number.checked_sub(first)?;
     items.get(index as usize).copied()
 }
 
-/// The text of an error that keeps values.
+/// The text of an error that has values.
 fn text_without_values(number: u32) -> &'static str {
     match number {
         0 => "no error",
@@ -226,7 +226,7 @@ fn text_without_values(number: u32) -> &'static str {
     }
 }
 
-/// The rules of DER beyond those of BER, in the order of their numbers.
+/// The rules of DER beyond BER, in the order of their numbers.
 const CONSTRAINTS: [DerConstraint; 12] = [
     DerConstraint::IndefiniteLength,
     DerConstraint::LengthNotMinimal,
@@ -282,7 +282,7 @@ const CONTENT_ERRORS: [ContentError; 36] = [
     ContentError::CharacterStringPrimitive,
 ];
 
-/// The rules of certificates that are broken, in the order of their numbers.
+/// The texts of broken rules of certificates, in the order of their numbers.
 const RULES: [&str; 12] = [
     "the signature algorithms differ",
     "the serial number is not positive",
@@ -298,7 +298,7 @@ const RULES: [&str; 12] = [
     "a value of any type is not DER",
 ];
 
-/// Why a text has no further block of PEM, or what is wrong with one, in the order of their numbers.
+/// The texts of PEM errors, in the order of their numbers.
 const FORMS: [&str; 6] = [
     "no line -----BEGIN ..-----",
     "a block without its line -----END ..-----",
@@ -326,7 +326,7 @@ const FIELDS: [Field; 14] = [
     Field::SignatureValue,
 ];
 
-/// Those of a list of revoked certificates.
+/// The fields of a CRL, in the order of their numbers.
 const LIST_FIELDS: [ListField; 11] = [
     ListField::CertificateList,
     ListField::TbsCertList,
@@ -341,7 +341,7 @@ const LIST_FIELDS: [ListField; 11] = [
     ListField::SignatureValue,
 ];
 
-/// Those of a request.
+/// The fields of a CSR, in the order of their numbers.
 const REQUEST_FIELDS: [RequestField; 8] = [
     RequestField::CertificationRequest,
     RequestField::CertificationRequestInfo,
@@ -353,7 +353,7 @@ const REQUEST_FIELDS: [RequestField; 8] = [
     RequestField::Signature,
 ];
 
-/// Those of a private key.
+/// The fields of a private key, in the order of their numbers.
 const KEY_FIELDS: [&str; 6] = [
     "PrivateKeyInfo",
     "version",
@@ -363,7 +363,7 @@ const KEY_FIELDS: [&str; 6] = [
     "publicKey",
 ];
 
-/// Those of one of RSA.
+/// The fields of an RSA private key, in the order of their numbers.
 const RSA_FIELDS: [&str; 11] = [
     "RSAPrivateKey",
     "version",
@@ -378,7 +378,7 @@ const RSA_FIELDS: [&str; 11] = [
     "otherPrimeInfos",
 ];
 
-/// Those of one of a curve.
+/// The fields of an elliptic private key, in the order of their numbers.
 const EC_FIELDS: [&str; 5] = [
     "ECPrivateKey",
     "version",
@@ -387,15 +387,15 @@ const EC_FIELDS: [&str; 5] = [
     "publicKey",
 ];
 
-/// Those of an encrypted private key.
+/// The fields of an encrypted private key, in the order of their numbers.
 const ENCRYPTED_FIELDS: [&str; 3] = [
     "EncryptedPrivateKeyInfo",
     "encryptionAlgorithm",
     "encryptedData",
 ];
 
-/// Those of a public key.
+/// The fields of a public key, in the order of their numbers.
 const PUBLIC_FIELDS: [&str; 3] = ["SubjectPublicKeyInfo", "algorithm", "subjectPublicKey"];
 
-/// Those of a public key of RSA.
+/// The fields of an RSA public key, in the order of their numbers.
 const RSA_PUBLIC_FIELDS: [&str; 3] = ["RSAPublicKey", "modulus", "publicExponent"];

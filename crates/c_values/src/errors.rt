@@ -1,4 +1,4 @@
-//! Errors by numbers.
+//! The numbers of errors.
 ghost use Rattle.std.specs.Prelude.{◌≡◌};
 ghost use Rattle.c_values.specs.ErrorNumbers.{cause_number, constraint_number, content_number, form_number};
 ghost use Rattle.c_values.specs.ErrorNumbers.{number_of_result, refusal_number, rule_number};
@@ -6,11 +6,11 @@ ghost use Rattle.der_base.specs.Refusal.{refusal};
 
 use der_base::error::{BerError, DerConstraint};
 use der_contents::ContentError;
+use der_elements::Cause;
 use der_input::FormError;
-use der_walk::Cause;
-use der_x509::Rule;
+use x509::Rule;
 
-/// The number of the first rule of DER beyond those of BER. The others follow in the order of `DerConstraint`.
+/// The number of the first rule of DER beyond BER. The others follow in the order of `DerConstraint`.
 pub(crate) const FIRST_CONSTRAINT: u32 = 32;
 
 /// The number of the first rule of content octets. The others follow in the order of `ContentError`.
@@ -19,7 +19,7 @@ pub(crate) const FIRST_CONTENT: u32 = 64;
 /// The number of the first rule of certificates. The others follow in the order of `Rule`.
 pub(crate) const FIRST_RULE: u32 = 128;
 
-/// The number of the first error of a text in PEM.
+/// The number of the first PEM error.
 pub(crate) const FIRST_FORM: u32 = 192;
 
 /// The number of an error.
@@ -49,28 +49,28 @@ pub fn refusal_number(e: BerError) -> u32
     }
 }
 
-/// The number of a rule of DER that is broken.
+/// The number of a broken rule of DER.
 fn constraint_number(constraint: DerConstraint) -> u32
     ensures { result ≡ constraint_number constraint }
 {
     FIRST_CONSTRAINT + constraint as u32
 }
 
-/// The number of a rule that content octets break.
+/// The number of a broken rule of content octets.
 fn content_number(e: ContentError) -> u32
     ensures { result ≡ content_number e }
 {
     FIRST_CONTENT + e as u32
 }
 
-/// The number of a rule that a certificate breaks.
+/// The number of a broken rule of certificates.
 pub(crate) fn rule_number(rule: Rule) -> u32
     ensures { result ≡ rule_number rule }
 {
     FIRST_RULE + rule as u32
 }
 
-/// The number of an error of a text in PEM.
+/// The number of a PEM error.
 pub(crate) fn form_number(e: FormError) -> u32
     ensures { result ≡ form_number e }
 {
@@ -86,7 +86,7 @@ pub(crate) fn form_number(e: FormError) -> u32
     }
 }
 
-/// The number of the cause of a fault. An input that is cut short is no error, and has 0.
+/// The number of a fault's cause. A cut input isn't an error and has 0.
 pub(crate) fn cause_number(cause: Cause) -> u32
     ensures { result ≡ cause_number cause }
 {
@@ -106,7 +106,7 @@ pub(crate) fn cause_number(cause: Cause) -> u32
     }
 }
 
-/// 0 for an Ok, and the number of the error for an Err.
+/// 0 for Ok, else the number of the error.
 pub fn number_of_result(found: Result<(), BerError>) -> u32
     ensures { result ≡ number_of_result found }
 {

@@ -1,4 +1,4 @@
-//! Why an input isn't what a reader of fields reads, as C sees it.
+//! Faults of field readers, for C.
 ghost use Rattle.std.specs.Prelude.{◌≡◌};
 ghost use Rattle.c_values.specs.Faults.{field_fault, needed_of, needed_size, no_fault, reason_numbers, rule_fault};
 
@@ -6,56 +6,56 @@ use crate::element::bit;
 use crate::errors::{refusal_number, rule_number};
 use der_base::error::{BerError, Err, Needed};
 use der_cursor::Refusal;
-use der_x509::Rule;
+use x509::Rule;
 
-/// What a reader of fields found wrong. All fields are 0 with status 0.
+/// The fault of a field reader. If the status is 0, all other fields are 0.
 #[repr(C)]
 #[derive(Clone, Copy)]
 pub struct DmFault {
-    /// The number of octets of the input before the element that shows it.
+    /// The offset in the input of the element that shows the error.
     pub offset: usize,
-    /// The number of octets before the end of the list that the element is in. 0 if it is in none.
+    /// The offset of the end of the list that the element is in; 0 if it is in none.
     pub list_end: usize,
-    /// How many octets the element needs, if it is cut short. 0 if that isn't known.
+    /// The number of octets that a cut element needs; 0 if unknown.
     pub needed: usize,
-    /// 0 if all is read, 1 for an error, 2 if the input is cut short.
+    /// 0 for success, 1 for an error, 2 if the input is cut.
     pub status: u32,
-    /// Status 1: the number of the error.
+    /// The number of the error, if the status is 1.
     pub error: u32,
-    /// The number of the first field that is wrong. 0 if the reader has no fields.
+    /// The number of the first invalid field; 0 if the reader has no fields.
     pub field: u32,
-    /// Whether the element is in a list, 0 or 1.
+    /// 1 if the element is in a list, else 0.
     pub is_in_list: u32,
 }
 
-/// The number of the field that is a certificate itself.
+/// The field number of the certificate itself.
 pub(crate) const CERTIFICATE: u32 = 1;
 
-/// The number of the first field of a list of revoked certificates. The others follow in the order of its `Field`.
+/// The number of the first field of a CRL. The others follow in the order of its `Field`.
 pub const FIRST_LIST_FIELD: u32 = 32;
 
-/// The number of the first field of a request.
+/// The number of the first field of a CSR. The others follow in the order of its `Field`.
 pub const FIRST_REQUEST_FIELD: u32 = 64;
 
-/// That of a private key, which is the key itself.
+/// The number of the first field of a private key: the key itself.
 pub const FIRST_KEY_FIELD: u32 = 96;
 
-/// That of one of RSA.
+/// The number of the first field of an RSA private key.
 pub const FIRST_RSA_FIELD: u32 = 112;
 
-/// That of one of a curve.
+/// The number of the first field of an elliptic private key.
 pub const FIRST_EC_FIELD: u32 = 128;
 
-/// That of an encrypted private key.
+/// The number of the first field of an encrypted private key.
 pub const FIRST_ENCRYPTED_FIELD: u32 = 144;
 
-/// That of a public key.
+/// The number of the first field of a public key.
 pub const FIRST_PUBLIC_FIELD: u32 = 160;
 
-/// That of a public key of RSA.
+/// The number of the first field of an RSA public key.
 pub const FIRST_RSA_PUBLIC_FIELD: u32 = 176;
 
-/// All is read.
+/// The fault of a success.
 pub fn no_fault() -> DmFault
     ensures { result ≡ no_fault }
 {
@@ -86,7 +86,7 @@ pub fn field_fault(field: u32, refusal: Refusal<BerError>) -> DmFault
     }
 }
 
-/// The status, the number of the error, and how many octets are needed.
+/// The status, the number of the error, and the number of octets that are needed.
 fn reason_numbers(reason: Err<BerError>) -> (u32, u32, usize)
     ensures { result ≡ reason_numbers reason }
 {
@@ -98,7 +98,7 @@ fn reason_numbers(reason: Err<BerError>) -> (u32, u32, usize)
     }
 }
 
-/// How many octets an element needs that runs past the end of its list.
+/// The number of octets that an element needs if it runs past the end of its list.
 fn needed_of(e: BerError) -> usize
     ensures { result ≡ needed_of e }
 {
@@ -108,7 +108,7 @@ fn needed_of(e: BerError) -> usize
     }
 }
 
-/// How many octets are needed, 0 if that isn't known.
+/// The number of octets that are needed; 0 if unknown.
 fn needed_size(needed: Needed) -> usize
     ensures { result ≡ needed_size needed }
 {

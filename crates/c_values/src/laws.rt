@@ -1,26 +1,26 @@
-//! Laws of what C sees. Each function's contract is a law, and its body is empty.
+//! Laws of the values that C gets. Each function's contract is a law; its body is empty.
 ghost use Rattle.c_values.specs.Laws.{BerFirstLiesWithin, DerFirstLiesWithin, ElementsLieWithin, FinishedIsWritten};
 ghost use Rattle.c_values.specs.Laws.{TimesAreDer};
 
-/// The offsets of the elements that a call writes are within the input: the header begins no later than
-/// the content, this begins no later than it ends, and it ends within the input.
+/// The elements that a call writes lie within the input: header, content and end have ascending offsets up to its
+/// length.
 pub fn elements_lie_within()
     ensures { ElementsLieWithin }
 {}
 
-/// So is the first element that a call writes.
+/// The first element that a call writes lies within the input.
 pub fn first_lies_within()
     ensures der { DerFirstLiesWithin }
     ensures ber { BerFirstLiesWithin }
 {}
 
-/// A finished writer's buffer begins with the octets that were put, and what follows is as it was; or it has fewer,
-/// and they are counted.
+/// The buffer of a finished writer begins with the octets that were put, and its rest is unchanged. If it is too small,
+/// the octets are counted.
 pub fn finished_is_written()
     ensures { FinishedIsWritten }
 {}
 
-/// A time that is put is one that DER has, so a reader by DER reads it (`leaves_spell` of der_writer).
+/// A time that is put is a time in DER, so a DER reader reads it (`leaves_spell` of der_writer).
 pub fn times_are_der()
     ensures { TimesAreDer }
 {}

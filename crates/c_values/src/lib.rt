@@ -1,5 +1,4 @@
-//! What the library for C has of elements, values and errors: each as a struct of C or a number. `dumarewhi_c` has the
-//! calls.
+//! The values of the C library: elements, values and errors as C structs or numbers. `dumarewhi_c` exports the calls.
 #![tactic(auto)]
 
 pub mod any;

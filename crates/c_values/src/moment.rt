@@ -1,4 +1,4 @@
-//! Times that C puts.
+//! Times that C writes.
 ghost use Rattle.std.specs.Prelude.{◌≡◌, IsTrue};
 ghost use Rattle.c_values.specs.Tested.{has_time, has_year, time_of};
 ghost use Rattle.c_values.specs.Writers.{writer_of};
@@ -13,7 +13,7 @@ use der_base::header::Tag;
 use der_base::time::{ASN1DateTime, ASN1TimeZone};
 use der_writer::Writer;
 
-/// Whether DER has a time of this type with these fields, in universal time (X.690 11.7, 11.8).
+/// Returns whether DER has a time of this type with these fields, in universal time (X.690 11.7, 11.8).
 pub(crate) fn has_time(tag: Tag, time: &DmTime) -> bool
     ensures { result ≡ has_time tag.0 time.now }
 {
@@ -28,7 +28,7 @@ pub(crate) fn has_time(tag: Tag, time: &DmTime) -> bool
         && time.zone == 1
 }
 
-/// Whether the type has this year and fraction.
+/// Returns whether the type allows this year and fraction.
 fn has_year(tag: Tag, time: &DmTime) -> bool
     ensures { result ≡ has_year tag.0 time.now }
 {
@@ -77,7 +77,7 @@ pub(crate) fn put_moment(writer: &mut DmWriter<'_>, tag: Tag, time: ASN1DateTime
     writer.implicit = 0;
 }
 
-/// The same to a writer of DER.
+/// Puts a time of this type into a DER writer.
 fn put_time_of(fields: &mut Writer<'_>, tag: Tag, time: ASN1DateTime)
     requires { IsTrue (is_time tag.0) }
     ensures { PutsLeaf tag.0 (content_octets (time_content tag.0 time)) fields.old fields.new }

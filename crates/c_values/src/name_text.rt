@@ -1,50 +1,72 @@
-//! Names as text (RFC 4514), all of it printable ASCII.
+//! Names as text (RFC 4514), in printable ASCII.
 ghost use Rattle.std.specs.Prelude.{◌<◌};
 ghost use Rattle.c_values.specs.Texts.{PutsSome};
 
 use crate::text::{put_arcs, put_text};
 use der_base::any::Any;
 use der_base::header::{Class, Tag};
-use der_octets::header::{length_octet_count, write_length};
 use der_values::ObjectIdentifier;
-use der_x509::{AttributeTypeAndValue, Name, RelativeDistinguishedName};
+use der_values::octets::header::{length_octet_count, write_length};
+use x509::{AttributeTypeAndValue, RelativeDistinguishedName, RelativeNames};
 
-/// How the octets of a string are its characters.
+/// The encoding of a string's characters.
 #[derive(Clone, Copy, PartialEq)]
 enum Coding {
-    /// As octets of UTF-8.
+    /// UTF-8.
     Utf8,
-    /// An octet each, Latin 1.
+    /// Latin 1.
     Latin1,
-    /// Two octets each, the high one first.
+    /// Two octets for a character, big endian.
     Bmp,
-    /// Four octets each, the highest first.
+    /// Four octets for a character, big endian.
     Universal,
 }
 
-/// The digits of hexadecimal numbers.
+/// The hexadecimal digits.
 const DIGITS: &[u8; 16] = b"0123456789ABCDEF";
 
-/// How many octets a length has at most (X.690 8.1.3, 10.1).
+/// The most length octets of a length (X.690 8.1.3, 10.1).
 const MOST_LENGTH_OCTETS: usize = 9;
 
-/// Nothing before the first, and this before the others.
-pub fn separator(is_first: bool, text: &'static [u8]) -> &'static [u8] {
+/// Writes `count` relative names, the last one first, with commas between them. Returns the offset after them. It
+/// halves the count, because walking to each name from the first would take quadratic time.
+pub fn put_names(text: &mut [u8], at: usize, names: RelativeNames<'_>, count: usize) -> usize
+    ensures { PutsSome text.old at text.new result }
+{
+    if count < 2 {
+        return put_next_name(text, at, names);
+    }
+    let half = count / 2;
+    let end = put_names(text, at, names_behind(names, half), count - half);
+    let end = put_text(text, end, b",");
+    put_names(text, end, names, half)
+}
+
+/// Writes the next relative name, if there is one. Returns the offset after it.
+fn put_next_name(text: &mut [u8], at: usize, mut names: RelativeNames<'_>) -> usize
+    ensures { PutsSome text.old at text.new result }
+{
+    match names.next() {
+        Some(name) => put_relative_name(text, at, name),
+        None => at,
+    }
+}
+
+/// The relative names after the first `count`.
+fn names_behind(mut names: RelativeNames<'_>, count: usize) -> RelativeNames<'_> {
+    for _ in 0..count {
+        let _name = names.next();
+    }
+    names
+}
+
+/// Nothing before the first item, `text` before the others.
+fn separator(is_first: bool, text: &'static [u8]) -> &'static [u8] {
     if is_first { b"" } else { text }
 }
 
-/// The relative name with an index.
-pub fn relative_name<'a>(name: Name<'a>, index: usize) -> RelativeDistinguishedName<'a> {
-    for (i, relative_name) in name.relative_names().enumerate() {
-        if i == index {
-            return relative_name;
-        }
-    }
-    RelativeDistinguishedName { octets: &[] }
-}
-
 /// Writes the attributes of a relative name. Returns the offset after them.
-pub fn put_relative_name(text: &mut [u8], at: usize, name: RelativeDistinguishedName<'_>) -> usize
+fn put_relative_name(text: &mut [u8], at: usize, name: RelativeDistinguishedName<'_>) -> usize
     ensures { PutsSome text.old at text.new result }
 {
     let mut end = at;
@@ -57,8 +79,8 @@ pub fn put_relative_name(text: &mut [u8], at: usize, name: RelativeDistinguished
     end
 }
 
-/// Writes the type and the value of an attribute. A value whose type has no short name, or that has no characters, is
-/// written in hexadecimal, with its header.
+/// Writes the type and the value of an attribute. A value whose type has no short name, or that isn't a string, is
+/// written in hexadecimal with its header.
 fn put_attribute(text: &mut [u8], at: usize, attribute: &AttributeTypeAndValue<'_>) -> usize
     ensures { PutsSome text.old at text.new result }
 {
@@ -111,7 +133,7 @@ fn short_name(identifier: ObjectIdentifier<'_>) -> Option<&'static str> {
     })
 }
 
-/// How the octets of a value are its characters, if it has any.
+/// The encoding of a value's characters, if it is a string.
 fn coding_of(value: &Any<'_>) -> Option<Coding> {
     if value.header.class() != Class::Universal || value.header.constructed() {
         return None;
@@ -127,7 +149,7 @@ fn coding_of(value: &Any<'_>) -> Option<Coding> {
     }
 }
 
-/// Writes characters, each as the octets that it has in UTF-8.
+/// Writes characters in UTF-8.
 fn put_characters(text: &mut [u8], at: usize, coding: Coding, octets: &[u8]) -> usize
     ensures { PutsSome text.old at text.new result }
 {
@@ -140,7 +162,7 @@ fn put_characters(text: &mut [u8], at: usize, coding: Coding, octets: &[u8]) -> 
     end
 }
 
-/// How many octets a unit has.
+/// The octets of a unit.
 fn width_of(coding: Coding) -> usize
     ensures { 0 < result }
 {
@@ -151,7 +173,7 @@ fn width_of(coding: Coding) -> usize
     }
 }
 
-/// Writes a character, which may be the first one of a value, or the last one.
+/// Writes a character. `is_first` and `is_last` say where it is in the value.
 fn put_character(
     text: &mut [u8],
     at: usize,
@@ -178,7 +200,7 @@ fn put_character(
     }
 }
 
-/// The number of octets, the highest first.
+/// The number in these octets, big endian.
 fn number(octets: &[u8]) -> u32 {
     match octets {
         [a] => u32::from(*a),
@@ -199,7 +221,7 @@ fn put_escaped(text: &mut [u8], at: usize, octets: &[u8], is_first: bool, is_las
     end
 }
 
-/// Writes an octet of a character, with an escape if it needs one (RFC 4514 2.4).
+/// Writes an octet of a character, escaped if needed (RFC 4514 2.4).
 fn put_octet(text: &mut [u8], at: usize, octet: u8, is_first: bool, is_last: bool) -> usize
     ensures { PutsSome text.old at text.new result }
 {
@@ -212,7 +234,7 @@ fn put_octet(text: &mut [u8], at: usize, octet: u8, is_first: bool, is_last: boo
     }
 }
 
-/// Writes an element in hexadecimal: its identifier octets, its length and its content.
+/// Writes an element in hexadecimal: identifier, length and content octets.
 fn put_element(text: &mut [u8], at: usize, value: &Any<'_>) -> usize
     ensures { PutsSome text.old at text.new result }
 {
@@ -224,7 +246,7 @@ fn put_element(text: &mut [u8], at: usize, value: &Any<'_>) -> usize
     put_hex(text, end, value.bytes)
 }
 
-/// Writes octets as hexadecimal numbers of two digits.
+/// Writes octets in hexadecimal.
 fn put_hex(text: &mut [u8], at: usize, octets: &[u8]) -> usize
     ensures { PutsSome text.old at text.new result }
 {
@@ -240,7 +262,7 @@ fn high_digit(octet: u8) -> u8 {
     DIGITS[usize::from(octet / 16)]
 }
 
-/// The second one.
+/// The second digit of an octet.
 fn low_digit(octet: u8) -> u8 {
     DIGITS[usize::from(octet % 16)]
 }

@@ -1,12 +1,16 @@
-//! Fields that a cursor read, written for C. The cursor goes on after them, or it stays.
-ghost use Rattle.std.specs.Prelude.{◌≡◌, ◌∷◌, MatchResult, Result};
-ghost use Rattle.c_values.specs.Cursors.{Finishes, IsAny, IsBit, IsBits, IsIdentifier, IsInner, IsNull, IsOctets};
-ghost use Rattle.c_values.specs.Cursors.{IsTime, TestsUnusedBits, end_fault, unused_bits_tests};
+//! Writes fields that a cursor read, for C. The cursor moves after the field, or stays if there is a fault.
+ghost use Rattle.std.specs.Prelude.{◌≡◌, ◌∷◌, MatchResult, Result, pos};
+ghost use Rattle.c_values.specs.Cursors.{DecodesFound, Finishes, IsAny, IsBit, IsBits, IsIdentifier, IsInner, IsNull};
+ghost use Rattle.c_values.specs.Cursors.{IsOctets, IsTime, RefusesAtStart, TestsUnusedBits, end_fault};
+ghost use Rattle.c_values.specs.Cursors.{refused_at_start, unused_bits_tests};
 ghost use Rattle.der_base.specs.declared.error.Error.{Error as BerError};
+ghost use Rattle.der_base.specs.declared.rules.Rules.{Rules};
 ghost use Rattle.der_base.specs.LeafRefusal.{IsFirstRefusal, NoneHolds};
+ghost use Rattle.der_base.specs.Numbers.{signed, unsigned};
 ghost use Rattle.der_base.specs.Refusal.{refusal};
 ghost use Rattle.der_cursor.specs.declared.refusal.Refusal.{Refusal};
 ghost use Rattle.der_cursor.specs.declared.cursor.Cursor.{Cursor};
+ghost use Rattle.der_values.specs.Kinds.{enumerated_numbers, integers, numbers};
 
 use crate::any::{DmAny, any_fields};
 use crate::cursor::{DmCursor, advance, moved_fault};
@@ -18,11 +22,12 @@ use crate::time::{DmTime, time_fields};
 use der_base::any::Any;
 use der_base::error::{BerError, DerConstraint, Err as Refused};
 use der_base::header::Tag;
+use der_base::rules::Rules;
 use der_base::time::ASN1DateTime;
 use der_cursor::{Cursor, Refusal};
-use der_values::{BitString, ObjectIdentifier};
+use der_values::{BitString, ObjectIdentifier, read_enumerated, read_i64, read_integer, read_u64};
 
-/// Writes a BOOLEAN that was read, and goes on after it; or returns the fault.
+/// Writes a BOOLEAN and moves after it; or returns the fault.
 pub fn finish_bool<'a>(
     cursor: &mut DmCursor<'a>,
     after: Cursor<'a>,
@@ -41,7 +46,7 @@ pub fn finish_bool<'a>(
     }
 }
 
-/// Writes octets that were read, and goes on after them; or returns the fault.
+/// Writes octets and moves after them; or returns the fault.
 pub fn finish_octets<'a>(
     cursor: &mut DmCursor<'a>,
     after: Cursor<'a>,
@@ -60,7 +65,7 @@ pub fn finish_octets<'a>(
     }
 }
 
-/// Writes an OBJECT IDENTIFIER that was read, and goes on after it; or returns the fault.
+/// Writes an OBJECT IDENTIFIER and moves after it; or returns the fault.
 pub fn finish_oid<'a>(
     cursor: &mut DmCursor<'a>,
     after: Cursor<'a>,
@@ -79,7 +84,71 @@ pub fn finish_oid<'a>(
     }
 }
 
-/// Bits that were read at the start of an input, unless their unused bits are refused there.
+/// The octets of an INTEGER at the start of an input. Also in BER they must be the fewest (X.690 8.3.1, 8.3.2);
+/// `Cursor::integer` takes any, as der-parser does.
+pub fn exact_integer<'a>(
+    found: Result<&'a [u8], Refusal<BerError>>,
+) -> Result<&'a [u8], Refusal<BerError>>
+    ensures { DecodesFound (λ v. v.now) (integers Rules.Der) found.entry result }
+{
+    match found {
+        Ok(octets) => at_start(read_integer(Rules::Der, octets)),
+        Err(e) => Err(e),
+    }
+}
+
+/// The number from 0 to 2^64-1 of an INTEGER, whose octets must be the fewest.
+pub fn exact_u64(found: Result<&[u8], Refusal<BerError>>) -> Result<u64, Refusal<BerError>>
+    ensures { DecodesFound pos (numbers Rules.Der (unsigned 64)) found.entry result }
+{
+    match found {
+        Ok(octets) => at_start(read_u64(Rules::Der, octets)),
+        Err(e) => Err(e),
+    }
+}
+
+/// The number from -2^63 to 2^63-1 of an INTEGER, whose octets must be the fewest.
+pub fn exact_i64(found: Result<&[u8], Refusal<BerError>>) -> Result<i64, Refusal<BerError>>
+    ensures { DecodesFound (λ v. v) (numbers Rules.Der (signed 64)) found.entry result }
+{
+    match found {
+        Ok(octets) => at_start(read_i64(Rules::Der, octets)),
+        Err(e) => Err(e),
+    }
+}
+
+/// The number from 0 to 2^64-1 of an ENUMERATED that was read as an INTEGER (X.690 8.4). Its octets must be the fewest.
+pub fn exact_enumerated(found: Result<&[u8], Refusal<BerError>>) -> Result<u64, Refusal<BerError>>
+    ensures { DecodesFound (λ v. v) (enumerated_numbers Rules.Der) found.entry result }
+{
+    match found {
+        Ok(octets) => at_start(read_enumerated(Rules::Der, octets)),
+        Err(e) => Err(e),
+    }
+}
+
+/// The value of content octets, or their error at the start of an input.
+fn at_start<T>(value: Result<T, BerError>) -> Result<T, Refusal<BerError>>
+    ensures { RefusesAtStart value result }
+{
+    match value {
+        Ok(value) => Ok(value),
+        Err(e) => Err(refused_at_start(e)),
+    }
+}
+
+/// An error at the start of an input.
+fn refused_at_start(e: BerError) -> Refusal<BerError>
+    ensures { result ≡ refused_at_start e }
+{
+    Refusal {
+        offset: 0,
+        list_end: None,
+        reason: Refused::Error(e),
+    }
+}
+
+/// Bits at the start of an input, or the error of their unused bits.
 pub fn with_unused_bits_tested<'a>(
     found: Result<BitString<'a>, Refusal<BerError>>,
 ) -> Result<BitString<'a>, Refusal<BerError>>
@@ -88,18 +157,14 @@ pub fn with_unused_bits_tested<'a>(
     match found {
         Ok(bits) => match check_unused_bits(bits) {
             Ok(()) => Ok(bits),
-            Err(e) => Err(Refusal {
-                offset: 0,
-                list_end: None,
-                reason: Refused::Error(e),
-            }),
+            Err(e) => Err(refused_at_start(e)),
         },
         Err(e) => Err(e),
     }
 }
 
-/// Checks that at most seven bits are unused (X.690 8.6.2.2), and none of no octet (8.6.2.3). By BER `read_bits` takes
-/// any number, as der-parser does.
+/// Checks that at most seven bits are unused (X.690 8.6.2.2), and none of no octets (8.6.2.3). By BER, `read_bits`
+/// takes any number, as der-parser does.
 fn check_unused_bits(bits: BitString<'_>) -> Result<(), BerError>
     ensures { MatchResult result
         (λ _. NoneHolds (unused_bits_tests (bits.entry.unused ∷ bits.entry.octets.now)))
@@ -114,7 +179,7 @@ fn check_unused_bits(bits: BitString<'_>) -> Result<(), BerError>
     Ok(())
 }
 
-/// Writes a BIT STRING that was read, and goes on after it; or returns the fault.
+/// Writes a BIT STRING and moves after it; or returns the fault.
 pub fn finish_bits<'a>(
     cursor: &mut DmCursor<'a>,
     after: Cursor<'a>,
@@ -133,7 +198,7 @@ pub fn finish_bits<'a>(
     }
 }
 
-/// Writes the cursor over a content that was opened, and goes on after it; or returns the fault.
+/// Writes the cursor over an opened content and moves after it; or returns the fault.
 pub fn finish_opening<'a>(
     cursor: &mut DmCursor<'a>,
     after: Cursor<'a>,
@@ -152,7 +217,7 @@ pub fn finish_opening<'a>(
     }
 }
 
-/// A cursor over the content of an element of the octets that are left.
+/// A cursor over the content of the next element.
 fn inner_cursor<'a>(cursor: &DmCursor<'a>, inner: Cursor<'a>) -> DmCursor<'a>
     ensures { IsInner cursor.now inner.entry result }
 {
@@ -166,7 +231,7 @@ fn inner_cursor<'a>(cursor: &DmCursor<'a>, inner: Cursor<'a>) -> DmCursor<'a>
     }
 }
 
-/// Writes a time that was read, and goes on after it; or returns the fault.
+/// Writes a time and moves after it; or returns the fault.
 pub fn finish_time<'a>(
     cursor: &mut DmCursor<'a>,
     after: Cursor<'a>,
@@ -185,7 +250,7 @@ pub fn finish_time<'a>(
     }
 }
 
-/// Goes on after a NULL that was read, or returns the fault.
+/// Moves after a NULL, or returns the fault.
 pub fn finish_null<'a>(
     cursor: &mut DmCursor<'a>,
     after: Cursor<'a>,
@@ -202,7 +267,7 @@ pub fn finish_null<'a>(
     }
 }
 
-/// Writes an element that was read, and goes on after it; or returns the fault.
+/// Writes an element and moves after it; or returns the fault.
 pub fn finish_any<'a>(
     cursor: &mut DmCursor<'a>,
     after: Cursor<'a>,
@@ -221,7 +286,7 @@ pub fn finish_any<'a>(
     }
 }
 
-/// The fault of a list that doesn't end.
+/// The fault of a list with octets left over.
 pub fn end_fault(cursor: &DmCursor<'_>, found: Result<(), Refusal<BerError>>) -> DmFault
     ensures { result ≡ end_fault cursor.now found }
 {

@@ -1,9 +1,9 @@
-//! Octets of an input as C sees them.
+//! Octets of an input for C.
 
-/// Octets of an input, which aren't copied.
+/// A slice of an input.
 #[repr(C)]
 #[derive(Clone, Copy)]
 pub struct DmOctets<'a> {
-    /// The octets. For C these are two fields, a pointer and the length.
+    /// The octets. In C these are two fields, a pointer and the length.
     pub octets: &'a [u8],
 }

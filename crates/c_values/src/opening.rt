@@ -1,4 +1,4 @@
-//! Elements that C opens.
+//! Opens elements for C.
 ghost use Rattle.c_values.specs.Writers.{mark_of, writer_of};
 ghost use Rattle.der_base.specs.declared.header.Class.{Class};
 ghost use Rattle.der_writer.specs.Written.{Opens};

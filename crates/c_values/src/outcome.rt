@@ -1,4 +1,4 @@
-//! Outcomes of readers as C sees them.
+//! Outcomes of element readers for C.
 ghost use Rattle.std.specs.Prelude.{◌≡◌, ◌≤◌, IfOk, MatchResult, length as length_of};
 ghost use Rattle.c_values.specs.Elements.{kept_slot};
 ghost use Rattle.c_values.specs.Outcomes.{error_outcome, fault_outcome, incomplete_outcome, no_room_outcome};
@@ -9,28 +9,27 @@ use crate::errors::{cause_number, refusal_number};
 use der_base::any::Any;
 use der_base::error::{BerError, Err, IResult, Needed};
 use der_canon::NotCanonical;
-use der_walk::Cause;
+use der_elements::Cause;
 
-/// What a reader of elements found. Fields that the status does not name are 0.
+/// The outcome of an element reader. Fields that the status doesn't name are 0.
 #[repr(C)]
 #[derive(Clone, Copy)]
 pub struct DmOutcome {
-    /// Status 0: how many elements there are.
+    /// Status 0: the number of elements.
     pub elements: usize,
-    /// Status 0: how many octets they have. Status 3: how many are needed.
+    /// Status 0: the number of their octets. Status 3: the number that is needed.
     pub length: usize,
-    /// Status 1: where the innermost element begins that shows the error.
+    /// Status 1: the offset of the innermost element that shows the error.
     pub place: usize,
-    /// Status 2: how many octets are missing, as far as the input shows.
+    /// Status 2: the number of missing octets, as far as the input shows.
     pub missing: usize,
-    /// 0 if the input begins with an element, 1 for an error, 2 if the input is cut short, 3 if the buffer
-    /// that elements are written to has less room than they need.
+    /// 0 if the input begins with an element, 1 for an error, 2 if the input is cut, 3 if the buffer is too small.
     pub status: u32,
     /// Status 1: the number of the error.
     pub error: u32,
 }
 
-/// The outcome of so many elements in so many octets.
+/// The outcome of this number of elements and octets.
 pub(crate) fn read_outcome(elements: usize, length: usize) -> DmOutcome
     ensures { result ≡ read_outcome elements length }
 {
@@ -44,7 +43,7 @@ pub(crate) fn read_outcome(elements: usize, length: usize) -> DmOutcome
     }
 }
 
-/// The outcome of an error or an input that is cut short.
+/// The outcome of an error or a cut input.
 fn refused_outcome(refused: Err<BerError>, place: usize) -> DmOutcome
     ensures { result ≡ refused_outcome refused place }
 {
@@ -72,7 +71,7 @@ fn error_outcome(error: u32, place: usize) -> DmOutcome
     }
 }
 
-/// The outcome of an input that lacks so many octets.
+/// The outcome of an input that lacks this number of octets.
 fn incomplete_outcome(missing: usize) -> DmOutcome
     ensures { result ≡ incomplete_outcome missing }
 {
@@ -86,7 +85,7 @@ fn incomplete_outcome(missing: usize) -> DmOutcome
     }
 }
 
-/// The outcome of a buffer with less room than so many octets need.
+/// The outcome of a buffer smaller than this number of octets.
 fn no_room_outcome(length: usize) -> DmOutcome
     ensures { result ≡ no_room_outcome length }
 {
@@ -100,7 +99,7 @@ fn no_room_outcome(length: usize) -> DmOutcome
     }
 }
 
-/// The outcome of a fault: of its cause, and the offset of the element that shows it.
+/// The outcome of a fault: its cause, and the offset of its element.
 pub(crate) fn fault_outcome(cause: Cause, offset: usize) -> DmOutcome
     ensures { result ≡ fault_outcome cause offset }
 {
@@ -110,7 +109,7 @@ pub(crate) fn fault_outcome(cause: Cause, offset: usize) -> DmOutcome
     }
 }
 
-/// Writes the first element, of which only the header was read. Returns the outcome.
+/// Writes the first element, whose header alone was read. Returns the outcome.
 pub fn outcome_of_first(
     size: usize,
     found: IResult<&[u8], Any<'_>, BerError>,
@@ -130,7 +129,7 @@ pub fn outcome_of_first(
     }
 }
 
-/// The outcome of elements that were written to a buffer with room for so many octets.
+/// The outcome of writing elements to a buffer of this capacity.
 pub fn outcome_of_written(room: usize, found: Result<usize, NotCanonical>) -> DmOutcome
     ensures { result ≡ outcome_of_written room found }
 {

@@ -1,14 +1,14 @@
-//! Parts of certificates as C sees them.
+//! Parts of certificates for C.
 ghost use Rattle.std.specs.Prelude.{◌≡◌, Some};
 ghost use Rattle.std.specs.Option.{option_map};
 ghost use Rattle.c_values.specs.Parts.{algorithm_in, bits_in, bits_numbers, moment_fields, no_time};
 ghost use Rattle.c_values.specs.Parts.{optional_moment_fields, version_number};
 ghost use Rattle.der_values.specs.Kinds.{borrowed_octets};
-ghost use Rattle.der_x509.specs.Certificates.{algorithm_of, bits_of};
+ghost use Rattle.x509.specs.Certificates.{algorithm_of, bits_of};
 
 use crate::time::{DmTime, time_fields};
 use der_values::{BitString, ObjectIdentifier};
-use der_x509::{AlgorithmIdentifier, Time, Version};
+use x509::{AlgorithmIdentifier, Time, Version};
 
 /// An algorithm (RFC 5280 4.1.1.2).
 #[repr(C)]
@@ -16,7 +16,7 @@ use der_x509::{AlgorithmIdentifier, Time, Version};
 pub struct DmAlgorithm<'a> {
     /// The content octets of its identifier.
     pub identifier: &'a [u8],
-    /// The element that has the parameters, with its header, and empty if there is none.
+    /// The encoding of the parameters; empty if there are none.
     pub parameters: &'a [u8],
 }
 
@@ -26,23 +26,23 @@ pub struct DmAlgorithm<'a> {
 pub struct DmBits<'a> {
     /// The octets, with the unused bits.
     pub octets: &'a [u8],
-    /// How many of the last bits aren't used.
+    /// The number of unused bits in the last octet.
     pub unused: u32,
-    /// Whether there is one, 0 or 1. If not, the other fields are empty and 0.
+    /// 1 if there is one. If 0, the other fields are empty and 0.
     pub is_present: u32,
 }
 
-/// A time, and the type that it is encoded as (4.1.2.5).
+/// A time, with the type of its encoding (RFC 5280 4.1.2.5).
 #[repr(C)]
 #[derive(Clone, Copy)]
 pub struct DmMoment {
     /// The time.
     pub time: DmTime,
-    /// The tag number of its type, 23 or 24. 0 if there is no time, and then all fields are 0.
+    /// The tag number of its type, 23 or 24. If 0, there is no time, and all fields are 0.
     pub number: u32,
 }
 
-/// An algorithm.
+/// The C struct of an algorithm.
 pub fn algorithm<'a>(algorithm: &AlgorithmIdentifier<'a>) -> DmAlgorithm<'a>
     ensures { algorithm_in result ≡ algorithm_of algorithm.now }
 {
@@ -52,7 +52,7 @@ pub fn algorithm<'a>(algorithm: &AlgorithmIdentifier<'a>) -> DmAlgorithm<'a>
     }
 }
 
-/// The content octets of an OBJECT IDENTIFIER. For a RELATIVE-OID there are none.
+/// The content octets of an OBJECT IDENTIFIER; empty for a RELATIVE-OID.
 pub fn identifier_octets<'a>(identifier: ObjectIdentifier<'a>) -> &'a [u8]
     ensures { result.now ≡ borrowed_octets identifier.entry }
 {
@@ -62,7 +62,7 @@ pub fn identifier_octets<'a>(identifier: ObjectIdentifier<'a>) -> &'a [u8]
     identifier.as_bytes()
 }
 
-/// Bits.
+/// The C struct of bits.
 pub fn bits<'a>(bits: BitString<'a>) -> DmBits<'a>
     ensures { bits_in result ≡ bits_numbers (Some (bits_of bits.entry)) }
 {
@@ -73,7 +73,7 @@ pub fn bits<'a>(bits: BitString<'a>) -> DmBits<'a>
     }
 }
 
-/// Bits that may be absent.
+/// The C struct of optional bits.
 pub fn optional_bits<'a>(found: Option<BitString<'a>>) -> DmBits<'a>
     ensures { bits_in result ≡ bits_numbers (option_map bits_of found.entry) }
 {
@@ -87,7 +87,7 @@ pub fn optional_bits<'a>(found: Option<BitString<'a>>) -> DmBits<'a>
     }
 }
 
-/// A time.
+/// The C struct of a time.
 pub fn moment(time: Time) -> DmMoment
     ensures { result ≡ moment_fields time }
 {
@@ -103,7 +103,7 @@ pub fn moment(time: Time) -> DmMoment
     }
 }
 
-/// A time that may be absent.
+/// The C struct of an optional time.
 pub fn optional_moment(time: Option<Time>) -> DmMoment
     ensures { result ≡ optional_moment_fields time }
 {
@@ -116,7 +116,7 @@ pub fn optional_moment(time: Option<Time>) -> DmMoment
     }
 }
 
-/// No time.
+/// The struct of an absent time.
 fn no_time() -> DmTime
     ensures { result ≡ no_time }
 {

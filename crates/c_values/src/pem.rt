@@ -1,4 +1,4 @@
-//! Blocks of PEM (RFC 7468), decoded in buffers of the caller's.
+//! PEM blocks (RFC 7468), decoded into the caller's buffers.
 ghost use Rattle.std.specs.Prelude.{Option, Result, length};
 ghost use Rattle.c_values.specs.Pem.{TakesBlock, WritesBlock};
 ghost use Rattle.der_input.specs.declared.error.FormError.{FormError};
@@ -14,7 +14,7 @@ use der_input::{Block, FormError};
 pub struct DmPem<'a> {
     /// Its label.
     pub label: &'a [u8],
-    /// How many octets it has, with which a buffer of the caller's begins.
+    /// The number of its octets, at the start of the caller's buffer.
     pub length: usize,
 }
 
@@ -38,7 +38,7 @@ pub fn take_block<'a>(
     }
 }
 
-/// Writes the label of a block, and its octets.
+/// Writes the label and the octets of a block.
 fn write_block<'a>(
     found: Block<'a>,
     characters: &mut [u8],

@@ -1,18 +1,18 @@
-//! Elements of an input, by DER and by BER, listed for C.
+//! Lists the elements of an input for C, by DER or BER.
 ghost use Rattle.std.specs.Prelude.{min};
 ghost use Rattle.c_values.specs.Outcomes.{Lists, greatest_depth};
 
 use crate::element::DmElement;
 use crate::outcome::{DmOutcome, fault_outcome, read_outcome};
 use der_base::rules::Rules;
-use der_check::list_element;
-use der_walk::{MAX_DEPTH, first_fault};
+use der_elements::check::list_element;
+use der_elements::{MAX_DEPTH, first_fault};
 
-/// Elements are read to this depth at most. It counts an element and those around it.
+/// The greatest depth of an element, counting itself and those around it.
 const GREATEST_DEPTH: usize = MAX_DEPTH + 1;
 
-/// Reads the element at the start of an input, and writes it and those inside it to the buffer, as far as there is
-/// room. If there is none, the outcome is that of the first fault.
+/// Reads the first element and writes it and those inside to the buffer, as far as its capacity allows. If it is
+/// invalid, the outcome is that of its first fault.
 pub fn list(input: &[u8], rules: Rules, max_depth: usize, elements: &mut [DmElement]) -> DmOutcome
     ensures { Lists rules (min max_depth greatest_depth) input.now elements.old elements.new result }
 {

@@ -1,37 +1,36 @@
-//! Writers as C keeps them.
+//! The state of writers for C.
 ghost use Rattle.std.specs.Prelude.{◌≡◌};
 ghost use Rattle.c_values.specs.Writers.{Continues, class_of, implicit_of};
 
 use der_base::header::{Class, Tag};
 use der_writer::Writer;
 
-/// A buffer, and what is written to it: the fields of `der_writer::Writer`. At the start all but the buffer are 0.
+/// A writer: the fields of `der_writer::Writer`. At the start all but the buffer are 0.
 #[repr(C)]
 pub struct DmWriter<'b> {
-    /// The buffer. For C these are two fields, a pointer and the capacity.
+    /// The buffer. In C these are two fields, a pointer and the capacity.
     pub octets: &'b mut [u8],
-    /// How many octets there are, room or not.
+    /// The number of octets, which may be more than the capacity.
     pub count: usize,
-    /// Where the length of the innermost open element stands. 0 if no element is open.
+    /// The position of the innermost open element's length; 0 if none is open.
     pub innermost: usize,
-    /// Whether the next element has an implicit tag: 0 if not, else its class from 1 to 4.
+    /// The class of the next element's implicit tag, from 1 to 4; 0 if there is none.
     pub implicit: u32,
     /// The number of that tag.
     pub number: u32,
 }
 
-/// An element that is open: the fields of `der_writer::Mark`.
+/// An open element: the fields of `der_writer::Mark`.
 #[repr(C)]
 #[derive(Clone, Copy)]
 pub struct DmMark {
-    /// Where its length stands.
+    /// The position of its length.
     pub start: usize,
-    /// Where that of the element around it stands. 0 if there is none.
+    /// The position of the length of the element around it; 0 if there is none.
     pub outer: usize,
 }
 
-/// A writer that goes on after so many octets in a buffer, before an element with this implicit tag. No element is open
-/// for it.
+/// A writer after `count` octets of a buffer, with this implicit tag and no open element.
 pub fn resume(out: &mut [u8], count: usize, implicit: Option<(Class, Tag)>) -> Writer<'_>
     ensures { Continues out.entry count implicit result }
 {
@@ -55,7 +54,7 @@ pub fn implicit_of(implicit: u32, number: u32) -> Option<(Class, Tag)>
     }
 }
 
-/// The class with this number (X.690 8.1.2.2). Any number above 2 is that of the last.
+/// The class with this number (X.690 8.1.2.2). Numbers above 2 are the last class.
 pub fn class_of(number: u8) -> Class
     ensures { result ≡ class_of number }
 {

@@ -1,4 +1,4 @@
-//! Values that are tested before they are put.
+//! Puts values after testing them.
 ghost use Rattle.std.specs.Prelude.{◌≡◌, Result, false};
 ghost use Rattle.c_values.specs.Tested.{PutsAnyText, PutsInteger, PutsTime, number_of_arcs};
 ghost use Rattle.c_values.specs.Writers.{writer_of};
@@ -17,7 +17,7 @@ use der_base::integer::check_fewest_octets;
 use der_base::text::is_text_type;
 use der_writer::Writer;
 
-/// Puts an INTEGER, if its octets are the fewest for its number.
+/// Puts an INTEGER, if its octets are the fewest.
 pub fn put_integer(writer: &mut DmWriter<'_>, octets: &[u8]) -> Result<(), BerError>
     ensures { PutsInteger octets.now (writer_of writer.old) result (writer_of writer.new) }
 {
@@ -30,7 +30,7 @@ pub fn put_integer(writer: &mut DmWriter<'_>, octets: &[u8]) -> Result<(), BerEr
     Ok(())
 }
 
-/// Puts an OBJECT IDENTIFIER, if there is one with these arcs.
+/// Puts an OBJECT IDENTIFIER, if it can have these arcs.
 pub fn put_arcs(writer: &mut DmWriter<'_>, arcs: &[u64]) -> Result<(), OidParseError>
     ensures { PutsArcs (octets_of_arcs false arcs.now) (writer_of writer.old) result (writer_of writer.new) }
 {
@@ -42,7 +42,7 @@ pub fn put_arcs(writer: &mut DmWriter<'_>, arcs: &[u64]) -> Result<(), OidParseE
     Ok(())
 }
 
-/// 0, or the number of the error why arcs have no octets.
+/// 0, or the number of the error of the arcs.
 pub fn number_of_arcs(found: Result<(), OidParseError>) -> u32
     ensures { result ≡ number_of_arcs found }
 {
@@ -65,7 +65,7 @@ pub fn put_text(writer: &mut DmWriter<'_>, tag: Tag, octets: &[u8]) -> Result<()
     Ok(())
 }
 
-/// The same to a writer of DER.
+/// Puts a text into a DER writer, if its octets are in the character set of its type.
 fn put_text_of(fields: &mut Writer<'_>, tag: Tag, octets: &[u8]) -> Result<(), BerError>
     ensures { PutsAnyText tag.0 octets.now fields.old result fields.new }
 {
@@ -78,7 +78,7 @@ fn put_text_of(fields: &mut Writer<'_>, tag: Tag, octets: &[u8]) -> Result<(), B
     }
 }
 
-/// Puts a time, if it is one of its type.
+/// Puts a time, if the type has it.
 pub fn put_time(writer: &mut DmWriter<'_>, tag: Tag, time: &DmTime) -> Result<(), BerError>
     ensures { PutsTime tag.0 time.now (writer_of writer.old) result (writer_of writer.new) }
 {

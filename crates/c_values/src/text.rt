@@ -1,14 +1,14 @@
-//! Texts that are written to a buffer, as far as there is room.
+//! Texts that are written to a buffer, as far as its capacity allows.
 ghost use Rattle.std.specs.Prelude.{◌≡◌, ◌∷◌, [], decimal};
 ghost use Rattle.c_values.specs.Texts.{PutsText};
 ghost use Rattle.der_base.specs.Pretty.{dotted, pointed};
-ghost use Rattle.der_nodes.specs.Places.{overlay};
+ghost use Rattle.der_elements.specs.Check.Overlay.{overlay};
 ghost use Rattle.der_values.specs.Identifiers.{u128_arcs_left};
 
 use der_values::U128Arcs;
 use itoa::Buffer;
 
-/// Writes arcs with points between them. Returns the length of the text.
+/// Writes arcs in dotted form. Returns the length of the text.
 pub fn put_arcs(room: &mut [u8], at: usize, mut arcs: U128Arcs<'_>) -> usize
     ensures { PutsText room.old at (dotted (u128_arcs_left arcs.entry)) room.new result }
 {
@@ -19,7 +19,7 @@ pub fn put_arcs(room: &mut [u8], at: usize, mut arcs: U128Arcs<'_>) -> usize
     put_further_arcs(room, end, arcs)
 }
 
-/// Writes arcs, each after a point.
+/// Writes arcs, each after a dot.
 fn put_further_arcs(room: &mut [u8], at: usize, arcs: U128Arcs<'_>) -> usize
     ensures { PutsText room.old at (pointed (u128_arcs_left arcs.entry)) room.new result }
 {
@@ -31,7 +31,7 @@ fn put_further_arcs(room: &mut [u8], at: usize, arcs: U128Arcs<'_>) -> usize
     end
 }
 
-/// Writes a number by its decimal digits.
+/// Writes a number in decimal.
 fn put_number(room: &mut [u8], at: usize, number: u128) -> usize
     ensures { PutsText room.old at (decimal number) room.new result }
 {
@@ -39,7 +39,7 @@ fn put_number(room: &mut [u8], at: usize, number: u128) -> usize
     put_text(room, at, digits.format(number).as_bytes())
 }
 
-/// Writes a text from an offset on, as far as there is room. Returns the offset after it, room or not.
+/// Writes a text at an offset, as far as the capacity allows. Returns the offset after the whole text.
 pub fn put_text(room: &mut [u8], at: usize, text: &[u8]) -> usize
     ensures { PutsText room.old at text.now room.new result }
 {
@@ -51,7 +51,7 @@ pub fn put_text(room: &mut [u8], at: usize, text: &[u8]) -> usize
     end
 }
 
-/// Writes an octet, if there is room.
+/// Writes an octet, if the capacity allows.
 fn put_octet(room: &mut [u8], at: usize, octet: u8)
     ensures { room.new ≡ overlay room.old at (octet ∷ []) }
 {

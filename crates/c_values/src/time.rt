@@ -1,4 +1,4 @@
-//! Times as C sees them.
+//! Times for C.
 ghost use Rattle.std.specs.Prelude.{◌≡◌};
 ghost use Rattle.c_values.specs.Values.{AnswersTime, time_fields, zone_hours, zone_minutes, zone_number};
 
@@ -12,7 +12,7 @@ use der_values::read_time;
 #[repr(C)]
 #[derive(Clone, Copy)]
 pub struct DmTime {
-    /// The year. Of a UTCTime it is 1950 to 2049, by RFC 5280 4.1.2.5.1.
+    /// The year. For a UTCTime it is 1950 to 2049, by RFC 5280 4.1.2.5.1.
     pub year: u32,
     /// The fraction of the second in nanoseconds, 0 if there is none.
     pub nanosecond: u32,
@@ -28,14 +28,14 @@ pub struct DmTime {
     pub second: u8,
     /// 0 for a local time, 1 for universal time, 2 for an offset from it.
     pub zone: u8,
-    /// The hours of the offset. They carry the sign, which is minus west of universal time.
+    /// The hours of the offset, negative west of universal time.
     pub zone_hours: i8,
-    /// The minutes of the offset, of the same sign.
+    /// The minutes of the offset, with the same sign.
     pub zone_minutes: i8,
 }
 
-/// Reads the content octets of a UTCTime (23) or a GeneralizedTime (24). InvalidDateTime if they are no
-/// text of the type, and for any other type.
+/// Reads the content octets of a UTCTime (23) or a GeneralizedTime (24). InvalidDateTime if they aren't one, and for
+/// any other type.
 pub fn read_fields(tag: Tag, content: &[u8]) -> Result<DmTime, BerError>
     ensures { AnswersTime tag.0 content.now result }
 {
@@ -47,7 +47,7 @@ pub fn read_fields(tag: Tag, content: &[u8]) -> Result<DmTime, BerError>
     }
 }
 
-/// The fields of a time whose year has all digits.
+/// The fields of a time whose year is complete.
 pub fn time_fields(time: ASN1DateTime) -> DmTime
     ensures { result ≡ time_fields time }
 {
@@ -66,7 +66,7 @@ pub fn time_fields(time: ASN1DateTime) -> DmTime
     }
 }
 
-/// The number of a zone, and its hours and minutes from universal time.
+/// The number of a zone, and the hours and minutes of its offset.
 fn zone_fields(zone: ASN1TimeZone) -> (u8, i8, i8)
     ensures { result ≡ (zone_number zone, zone_hours zone, zone_minutes zone) }
 {

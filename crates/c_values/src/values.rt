@@ -1,4 +1,4 @@
-//! Values of content octets, written for C.
+//! Writes values of content octets, for C.
 ghost use Rattle.std.specs.Prelude.{◌≡◌, Result};
 ghost use Rattle.c_values.specs.ErrorNumbers.{number_of_result};
 ghost use Rattle.c_values.specs.Values.{AnswersBoolean, AnswersText, written};
@@ -12,7 +12,7 @@ use der_base::rules::Rules;
 use der_base::text::is_text_type;
 use der_values::{read_bmp_string, read_bool, read_text};
 
-/// Writes what a reader returned. Returns 0 or the number of its error.
+/// Writes a reader's value. Returns 0 or the number of the error.
 pub fn write<V: Copy>(found: Result<V, BerError>, value: &mut V) -> u32
     ensures value { value.new ≡ written found value.old }
     ensures number { result ≡ number_of_result found }
@@ -26,14 +26,14 @@ pub fn write<V: Copy>(found: Result<V, BerError>, value: &mut V) -> u32
     }
 }
 
-/// The value of a BOOLEAN as a number.
+/// Reads a BOOLEAN as 0 or 1.
 pub fn read_boolean(content: &[u8]) -> Result<u8, BerError>
     ensures { AnswersBoolean content.now result }
 {
     Ok(bit(read_bool(Rules::Ber, content)?))
 }
 
-/// A string type that is kept as a text, or a BMPString.
+/// Checks a string of a type with octets as characters, or a BMPString.
 pub fn check_text(tag: Tag, content: &[u8]) -> Result<(), BerError>
     ensures { AnswersText tag.0 content.now result }
 {

@@ -1,12 +1,12 @@
 -- Certificates in words (RFC 5280 4.1).
 use Rattle.std.specs.Prelude.{ℕ, Option, Some, None, List, [], ◌++◌, codes, decimal}
-use Rattle.der_x509.specs.declared.certificate.Version.{Version}
-use Rattle.der_x509.specs.declared.certificate.Version.TheVariants.{V1, V2, V3}
-use Rattle.der_x509.specs.Certificates.{Signed, Tbs}
-use Rattle.name_text.specs.Identifiers.{IsIdentifierLine}
-use Rattle.name_text.specs.Names.{IsNameLine}
-use Rattle.name_text.specs.Pieces.{Exactly, ◌⨾◌}
-use Rattle.name_text.specs.Values.{line, octets_line, serial_text}
+use Rattle.x509.specs.declared.certificate.Version.{Version}
+use Rattle.x509.specs.declared.certificate.Version.TheVariants.{V1, V2, V3}
+use Rattle.x509.specs.Certificates.{Signed, Tbs}
+use Rattle.extension_text.specs.Names.Identifiers.{IsIdentifierLine}
+use Rattle.extension_text.specs.Names.Names.{IsNameLine}
+use Rattle.extension_text.specs.Names.Pieces.{Exactly, ◌⨾◌}
+use Rattle.extension_text.specs.Names.Values.{line, octets_line, serial_text}
 use Rattle.extension_text.specs.Extensions.{IsExtensionList}
 use Rattle.certificate_text.specs.Keys.{IsKey}
 use Rattle.certificate_text.specs.Values.{digests_text, signature_text, validity_text}

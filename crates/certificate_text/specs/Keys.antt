@@ -2,26 +2,14 @@
 use Rattle.std.specs.Prelude.{◌≡◌, ◌≢◌, ℕ, ◌-◌, ◌*◌, ◌⊎◌, List, [], ◌∷◌, ◌++◌, codes, decimal, length}
 use Rattle.std.specs.Int.{leading_zeros, w8}
 use Rattle.der_base.specs.declared.rules.Rules.TheVariants.{Der}
-use Rattle.der_cursor.specs.Formats.{End, Format, Integer, ObjectIdentifier, Only, Required, Sequence, ◌⨾◌}
+use Rattle.der_cursor.specs.Formats.{ObjectIdentifier, Only, Required}
 use Rattle.der_print.specs.Values.{without_leading_zero}
-use Rattle.der_x509.specs.Certificates.{KeyInfo}
-use Rattle.name_text.specs.Identifiers.{IsIdentifierLine}
-use Rattle.name_text.specs.Pieces.{Then}
-use Rattle.name_text.specs.Values.{line, octets_line}
-use Rattle.certificate_text.specs.declared.key.RsaPublicKey.{RsaPublicKey}
-
-abbrev pub RsaValue : Type 0
-RsaValue = List ℕ × (List ℕ × Unit {0})
-
--- RSAPublicKey ::= SEQUENCE {                                            (RFC 8017 A.1.1)
-abbrev pub RSAPublicKey : Format RsaValue
-RSAPublicKey = Sequence (
-    Required Integer  -- modulus           INTEGER,
-    ⨾ (Required Integer  -- publicExponent    INTEGER }
-    ⨾ End))
-
-abbrev pub rsa_of : RsaPublicKey → RsaValue
-rsa_of k = (k.modulus.now, (k.public_exponent.now, tt))
+use Rattle.x509.specs.Certificates.{KeyInfo}
+use Rattle.x509.specs.Formats.{spells}
+use Rattle.x509_keys.specs.OtherKeys.{RsaPublicValue, whole_rsa_public_key}
+use Rattle.extension_text.specs.Names.Identifiers.{IsIdentifierLine}
+use Rattle.extension_text.specs.Names.Pieces.{Then}
+use Rattle.extension_text.specs.Names.Values.{line, octets_line}
 
 -- the bits of a natural number with these digits of base 256
 abbrev pub bits_of_digits : List ℕ → ℕ
@@ -37,8 +25,8 @@ size_text modulus = codes "    Size: " ++ (decimal (bit_length modulus) ++ codes
 
 -- the octets are a key of RSA, or none
 abbrev pub IsSize : List ℕ → List ℕ → Type 0
-IsSize w text = ((k : RsaValue) × Only (Required RSAPublicKey) Der w k × (text ≡ size_text k.0))
-    ⊎ (((k : RsaValue) → ¬ Only (Required RSAPublicKey) Der w k) × (text ≡ octets_line (codes "    Octets: ") w))
+IsSize w text = ((k : RsaPublicValue) × spells whole_rsa_public_key w k [] × (text ≡ size_text k.0))
+    ⊎ (((k : RsaPublicValue) → ¬ spells whole_rsa_public_key w k []) × (text ≡ octets_line (codes "    Octets: ") w))
 
 -- the parameters are the identifier of a curve (RFC 5480 2.1.1), or not
 abbrev pub IsCurve : List ℕ → List ℕ → Type 0

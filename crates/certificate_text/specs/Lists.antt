@@ -1,12 +1,12 @@
 -- Lists of revoked certificates in words (RFC 5280 5.1).
 use Rattle.std.specs.Prelude.{◌≡◌, ℕ, Option, Some, None, List, [], ◌++◌, codes, Result, Ok, Err}
-use Rattle.crl_reader.specs.declared.reason.Reason.{Reason}
-use Rattle.crl_reader.specs.declared.reason.Reason.TheVariants.{Unspecified, KeyCompromise, CaCompromise}
-use Rattle.crl_reader.specs.declared.reason.Reason.TheVariants.{AffiliationChanged, Superseded, CessationOfOperation}
-use Rattle.crl_reader.specs.declared.reason.Reason.TheVariants.{CertificateHold, RemoveFromCrl, PrivilegeWithdrawn}
-use Rattle.crl_reader.specs.declared.reason.Reason.TheVariants.{AaCompromise}
-use Rattle.crl_reader.specs.Lists.{Revoked, Signed, Tbs, revoked_certificate}
-use Rattle.crl_reader.specs.Reasons.{CRLReason}
+use Rattle.x509.specs.declared.crl.reason.Reason.{Reason}
+use Rattle.x509.specs.declared.crl.reason.Reason.TheVariants.{Unspecified, KeyCompromise, CaCompromise}
+use Rattle.x509.specs.declared.crl.reason.Reason.TheVariants.{AffiliationChanged, Superseded, CessationOfOperation}
+use Rattle.x509.specs.declared.crl.reason.Reason.TheVariants.{CertificateHold, RemoveFromCrl, PrivilegeWithdrawn}
+use Rattle.x509.specs.declared.crl.reason.Reason.TheVariants.{AaCompromise}
+use Rattle.x509.specs.Crl.Lists.{Revoked, Signed, Tbs, revoked_certificate}
+use Rattle.x509.specs.Crl.Reasons.{CRLReason}
 use Rattle.der_base.specs.declared.error.Error.{Error as BerError}
 use Rattle.der_base.specs.declared.rules.Rules.TheVariants.{Der}
 use Rattle.der_cursor.specs.declared.refusal.Refusal.{Refusal}
@@ -15,14 +15,14 @@ use Rattle.der_extensions.specs.declared.value.ExtensionValue.{ExtensionValue}
 use Rattle.der_extensions.specs.declared.value.ExtensionValue.TheVariants as value
 use Rattle.der_extensions.specs.Lists.{list_octets}
 use Rattle.der_extensions.specs.Values.{ReadsExtension}
-use Rattle.der_x509.specs.declared.extension.Extension.{Extension}
-use Rattle.der_x509.specs.declared.time.Time.{Time}
-use Rattle.der_x509.specs.Certificates.{ExtensionValue as ExtensionFields, extension, extension_of, moment_of}
-use Rattle.der_x509.specs.Formats.{spells}
-use Rattle.name_text.specs.Identifiers.{IsIdentifierLine}
-use Rattle.name_text.specs.Names.{IsNameLine}
-use Rattle.name_text.specs.Pieces.{Each, Exactly, ◌⨾◌}
-use Rattle.name_text.specs.Values.{line, octets_line, serial_text, time_line}
+use Rattle.x509.specs.declared.extension.Extension.{Extension}
+use Rattle.x509.specs.declared.time.Time.{Time}
+use Rattle.x509.specs.Certificates.{ExtensionValue as ExtensionFields, extension, extension_of, moment_of}
+use Rattle.x509.specs.Formats.{spells}
+use Rattle.extension_text.specs.Names.Identifiers.{IsIdentifierLine}
+use Rattle.extension_text.specs.Names.Names.{IsNameLine}
+use Rattle.extension_text.specs.Names.Pieces.{Each, Exactly, ◌⨾◌}
+use Rattle.extension_text.specs.Names.Values.{line, octets_line, serial_text, time_line}
 use Rattle.extension_text.specs.Extensions.{IsExtensionList, IsHeading}
 use Rattle.extension_text.specs.GeneralNames.{AreGeneralNames}
 use Rattle.extension_text.specs.Unread.{IsUnread}

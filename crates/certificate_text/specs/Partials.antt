@@ -1,12 +1,12 @@
 -- What was read of a certificate, in words: the lines of the fields that were read (RFC 5280 4.1).
 use Rattle.std.specs.Prelude.{ℕ, List, [], ◌++◌, codes, Option, Some, None}
-use Rattle.der_x509.specs.declared.certificate.Version.{Version}
-use Rattle.der_x509.specs.declared.time.Validity.{Validity}
-use Rattle.der_x509.specs.Certificates.{Algorithm, KeyInfo}
-use Rattle.partial_certificate.specs.Partials.{Partial}
-use Rattle.name_text.specs.Identifiers.{IsIdentifierLine}
-use Rattle.name_text.specs.Names.{IsNameLine}
-use Rattle.name_text.specs.Pieces.{Exactly, ◌⨾◌}
+use Rattle.x509.specs.declared.certificate.Version.{Version}
+use Rattle.x509.specs.declared.time.Validity.{Validity}
+use Rattle.x509.specs.Certificates.{Algorithm, KeyInfo}
+use Rattle.x509.specs.Partial.Partials.{Partial}
+use Rattle.extension_text.specs.Names.Identifiers.{IsIdentifierLine}
+use Rattle.extension_text.specs.Names.Names.{IsNameLine}
+use Rattle.extension_text.specs.Names.Pieces.{Exactly, ◌⨾◌}
 use Rattle.extension_text.specs.Extensions.{IsExtensionList}
 use Rattle.certificate_text.specs.Certificates.{optional_id, serial_line, version_text}
 use Rattle.certificate_text.specs.Keys.{IsKey}

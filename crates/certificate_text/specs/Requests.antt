@@ -1,12 +1,12 @@
 -- Certification requests in words (RFC 2986).
 use Rattle.std.specs.Prelude.{◌≡◌, ◌≢◌, ℕ, ◌⊎◌, List, [], ◌∷◌, codes}
 use Rattle.der_cursor.specs.Elements.{Element}
-use Rattle.der_request.specs.Requests.{Attribute, Info, Signed, attribute, challenge_password, extension_request}
-use Rattle.der_x509.specs.Formats.{any, spells}
-use Rattle.name_text.specs.Identifiers.{IsIdentifierLine}
-use Rattle.name_text.specs.Names.{IsNameLine}
-use Rattle.name_text.specs.Pieces.{Each, Exactly, ◌⨾◌}
-use Rattle.name_text.specs.Values.{any_text, line}
+use Rattle.x509_keys.specs.Request.Requests.{Attribute, Info, Signed, attribute, challenge_password, extension_request}
+use Rattle.x509.specs.Formats.{any, spells}
+use Rattle.extension_text.specs.Names.Identifiers.{IsIdentifierLine}
+use Rattle.extension_text.specs.Names.Names.{IsNameLine}
+use Rattle.extension_text.specs.Names.Pieces.{Each, Exactly, ◌⨾◌}
+use Rattle.extension_text.specs.Names.Values.{any_text, line}
 use Rattle.extension_text.specs.Extensions.{IsExtensionList}
 use Rattle.certificate_text.specs.Keys.{IsKey}
 use Rattle.certificate_text.specs.Values.{signature_text}

@@ -1,10 +1,10 @@
 -- When something is valid, and what follows the signed part.
 use Rattle.std.specs.Prelude.{ℕ, Option, List, ◌++◌, codes, decimal, length}
-use Rattle.der_x509.specs.declared.time.Validity.{Validity}
-use Rattle.der_x509.specs.Certificates.{moment_of}
+use Rattle.x509.specs.declared.time.Validity.{Validity}
+use Rattle.x509.specs.Certificates.{moment_of}
 use Rattle.sha1.specs.Sha1.{sha1}
 use Rattle.sha2.specs.Sha256.{sha256}
-use Rattle.name_text.specs.Values.{hex, line, time_line}
+use Rattle.extension_text.specs.Names.Values.{hex, line, time_line}
 use Rattle.certificate_text.specs.Expiry.{optional_expiry}
 
 abbrev pub validity_text : Option ℕ → Validity → List ℕ

@@ -3,7 +3,7 @@ ghost use Rattle.std.specs.Option.{option_map};
 ghost use Rattle.std.specs.Prelude.{◌≡◌, Some};
 ghost use Rattle.std.specs.Fmt.{DisplaysOnOk};
 ghost use Rattle.der_print.specs.Writes.{WritesOne};
-ghost use Rattle.der_x509.specs.Certificates.{bits_of, certificate_of, tbs_of};
+ghost use Rattle.x509.specs.Certificates.{bits_of, certificate_of, tbs_of};
 ghost use Rattle.certificate_text.specs.Certificates.{IsBody, IsCertificateText, IsHolder, IsIdentity, IsSeal};
 ghost use Rattle.certificate_text.specs.Certificates.{optional_id, serial_line, unique_ids, version_number};
 ghost use Rattle.certificate_text.specs.Certificates.{version_text};
@@ -12,21 +12,21 @@ use crate::key::write_key;
 use crate::seal::{write_digests, write_signature};
 use crate::validity::write_validity;
 use der_values::BitString;
-use der_x509::{Certificate, TbsCertificate, Version};
 use extension_text::extension::write_extensions;
-use name_text::identifier::write_identifier_line;
-use name_text::lines::write_octets;
-use name_text::name::write_name_line;
-use name_text::serial::Serial;
+use extension_text::names::identifier::write_identifier_line;
+use extension_text::names::lines::write_octets;
+use extension_text::names::name::write_name_line;
+use extension_text::names::serial::Serial;
 use std::fmt;
+use x509::{Certificate, TbsCertificate, Version};
 
-/// A certificate in words.
+/// The summary of a certificate.
 #[derive(Clone, Copy)]
 pub struct CertificateText<'r, 'a> {
-    /// The octets that it was read from.
+    /// The octets of the certificate.
     pub octets: &'a [u8],
     pub certificate: &'r Certificate<'a>,
-    /// The present, in seconds since 1970-01-01 00:00:00 UTC. With none, nothing is said of how long it is valid.
+    /// The present, in seconds since 1970-01-01 00:00:00 UTC. Without it, the days of validity aren't written.
     pub now: Option<u64>,
 }
 
@@ -36,12 +36,11 @@ impl fmt::Display for CertificateText<'_, '_> {
     }
 }
 
-/// Writes a certificate in words. `octets` is what it was read from, and `now` the present, in seconds since
-/// 1970-01-01 00:00:00 UTC: with none, nothing is said of how long it is valid.
+/// Writes the summary of a certificate. `octets` is its encoding, and `now` the present, in seconds since 1970-01-01
+/// 00:00:00 UTC; without it, the days of validity aren't written.
 ///
-/// Names are written by RFC 4514. The value of an attribute is `#` and its element in hexadecimal digits if its type
-/// has no short name, or if its octets aren't its characters, as those of a BMPString. Serial numbers are in
-/// hexadecimal digits, a negative one in two's complement.
+/// Names have the form of RFC 4514. An attribute value is `#` and its element in hexadecimal if its type has no short
+/// name, or if it isn't a character string. Serial numbers are in hexadecimal, negative ones in two's complement.
 pub fn write_certificate<W: fmt::Write>(
     f: &mut fmt::Formatter<W>,
     octets: &[u8],
@@ -56,7 +55,7 @@ pub fn write_certificate<W: fmt::Write>(
     write_seal(f, octets, certificate)
 }
 
-/// Writes the fields that are signed.
+/// Writes the signed fields.
 fn write_body<W: fmt::Write>(
     f: &mut fmt::Formatter<W>,
     fields: &TbsCertificate<'_>,
@@ -71,7 +70,7 @@ fn write_body<W: fmt::Write>(
     write_extensions(f, "  Extensions\n", fields.extensions)
 }
 
-/// Writes who issued a certificate, and under which number.
+/// Writes the version, the serial number, the signature algorithm and the issuer.
 fn write_identity<W: fmt::Write>(
     f: &mut fmt::Formatter<W>,
     fields: &TbsCertificate<'_>,
@@ -84,7 +83,7 @@ fn write_identity<W: fmt::Write>(
     write_name_line(f, "  Issuer: ", fields.issuer)
 }
 
-/// Writes the number by which a version is known, one more than its encoding.
+/// Writes the version as it is commonly numbered, one more than encoded.
 pub(crate) fn write_version<W: fmt::Write>(
     f: &mut fmt::Formatter<W>,
     version: Version,
@@ -104,7 +103,7 @@ fn version_number(version: Version) -> u8
     }
 }
 
-/// Writes a line of the serial number of a certificate.
+/// Writes a line with the serial number.
 pub(crate) fn write_serial_line<W: fmt::Write>(
     f: &mut fmt::Formatter<W>,
     octets: &[u8],
@@ -114,7 +113,7 @@ pub(crate) fn write_serial_line<W: fmt::Write>(
     write!(f, "  Serial number: {}\n", Serial { octets })
 }
 
-/// Writes whose key a certificate has, and when it is valid.
+/// Writes the validity and the subject.
 fn write_holder<W: fmt::Write>(
     f: &mut fmt::Formatter<W>,
     fields: &TbsCertificate<'_>,

@@ -1,17 +1,17 @@
-//! How long something is valid.
+//! The time to or since the end of a validity.
 ghost use Rattle.std.specs.Prelude.{◌≡◌, Some};
 ghost use Rattle.std.specs.Fmt.{DisplaysOnOk};
-ghost use Rattle.der_x509.specs.Certificates.{moment_of};
+ghost use Rattle.x509.specs.Certificates.{moment_of};
 ghost use Rattle.certificate_text.specs.Expiry.{day_of, expiry_text, optional_expiry, second_of, year_from_march};
 
 use der_base::time::ASN1DateTime;
-use der_x509::Time;
 use std::fmt;
+use x509::Time;
 
 /// The seconds of a day.
 const DAY: u64 = 86400;
 
-/// The number of the day 1970-01-01, as `day_of` counts.
+/// The number of the day 1970-01-01, by `day_of`.
 const EPOCH: u64 = 719_469;
 
 /// A number of days.
@@ -32,7 +32,7 @@ impl fmt::Display for Days {
     }
 }
 
-/// Writes in how many whole days a time is, or how many ago it was, if the present is given: seconds since 1970.
+/// Writes in how many whole days a time is, or how many days ago it was, if `now` is given, in seconds since 1970.
 pub(crate) fn write_optional_expiry<W: fmt::Write>(
     f: &mut fmt::Formatter<W>,
     now: Option<u64>,
@@ -46,7 +46,7 @@ pub(crate) fn write_optional_expiry<W: fmt::Write>(
     }
 }
 
-/// Writes in how many whole days a moment is, or how many ago it was.
+/// Writes in how many whole days a time is, or how many days ago it was.
 fn write_expiry<W: fmt::Write>(
     f: &mut fmt::Formatter<W>,
     now: u64,
@@ -64,7 +64,7 @@ fn write_expiry<W: fmt::Write>(
     write!(f, "  Expired: {passed} ago\n")
 }
 
-/// The seconds from the start of the day 0 to a moment.
+/// The seconds from the start of day 0 to a time.
 fn second_of(moment: ASN1DateTime) -> u64
     ensures { result ≡ second_of moment }
 {
@@ -73,7 +73,7 @@ fn second_of(moment: ASN1DateTime) -> u64
     minutes * 60 + u64::from(moment.second)
 }
 
-/// The number of a day of the Gregorian calendar. Years are counted from March, so that a leap day ends one.
+/// The number of a day in the Gregorian calendar. Years begin in March, so that a leap day is the last day.
 fn day_of(moment: ASN1DateTime) -> u64
     ensures { result ≡ day_of moment.year moment.month moment.day }
 {
@@ -83,7 +83,7 @@ fn day_of(moment: ASN1DateTime) -> u64
     year * 365 + leap_days + days_before + u64::from(moment.day)
 }
 
-/// The year whose March was the last one.
+/// The year that begins with the last March.
 fn year_from_march(moment: ASN1DateTime) -> u64
     ensures { result ≡ year_from_march moment.year moment.month }
 {

@@ -2,22 +2,22 @@
 ghost use Rattle.std.specs.Prelude.{◌≡◌, ◌↔◌, IsTrue, Some};
 ghost use Rattle.std.specs.Fmt.{DisplaysOnOk};
 ghost use Rattle.der_base.specs.declared.rules.Rules.{Rules};
-ghost use Rattle.der_cursor.specs.Formats.{Never, ObjectIdentifier as IdentifierFormat, Only, ReadsField, ReadsWhole};
-ghost use Rattle.der_cursor.specs.Formats.{Required};
+ghost use Rattle.der_cursor.specs.Formats.{Never, ObjectIdentifier as IdentifierFormat, Only, ReadsWhole, Required};
 ghost use Rattle.der_print.specs.Writes.{WritesOne};
 ghost use Rattle.der_values.specs.Kinds.{borrowed_octets};
-ghost use Rattle.der_x509.specs.Certificates.{key_info_of};
-ghost use Rattle.certificate_text.specs.Keys.{IsCurve, IsDetail, IsKey, IsSize, RSAPublicKey, bit_length, rsa_of};
-ghost use Rattle.certificate_text.specs.Keys.{ec_public_key, rsa_encryption, size_text};
+ghost use Rattle.x509.specs.Certificates.{key_info_of};
+ghost use Rattle.certificate_text.specs.Keys.{IsCurve, IsDetail, IsKey, IsSize, bit_length, ec_public_key};
+ghost use Rattle.certificate_text.specs.Keys.{rsa_encryption, size_text};
 
 use der_base::error::BerError;
 use der_cursor::{Cursor, Refusal};
 use der_values::ObjectIdentifier;
-use der_x509::SubjectPublicKeyInfo;
-use name_text::identifier::{octets_of, write_identifier_line};
-use name_text::lines::write_octets;
-use name_text::serial::without_leading_zero;
+use extension_text::names::identifier::write_identifier_line;
+use extension_text::names::lines::write_octets;
+use extension_text::names::serial::without_leading_zero;
 use std::fmt;
+use x509::{SubjectPublicKeyInfo, absolute_octets};
+use x509_keys::read_rsa_public_key;
 
 /// rsaEncryption: 1.2.840.113549.1.1.1.
 const RSA: &[u8] = b"\x2a\x86\x48\x86\xf7\x0d\x01\x01\x01";
@@ -25,7 +25,7 @@ const RSA: &[u8] = b"\x2a\x86\x48\x86\xf7\x0d\x01\x01\x01";
 /// id-ecPublicKey: 1.2.840.10045.2.1.
 const ELLIPTIC: &[u8] = b"\x2a\x86\x48\xce\x3d\x02\x01";
 
-/// Writes the algorithm of a key, and its size or its curve.
+/// Writes the algorithm of a key, and the size or the curve.
 pub(crate) fn write_key<W: fmt::Write>(
     f: &mut fmt::Formatter<W>,
     key: &SubjectPublicKeyInfo<'_>,
@@ -36,7 +36,7 @@ pub(crate) fn write_key<W: fmt::Write>(
     write_detail(f, key)
 }
 
-/// Writes the size of a key of RSA, the curve of an elliptic one, or how many octets another one has.
+/// Writes the size of an RSA key, the curve of an elliptic key, or the number of octets of any other.
 fn write_detail<W: fmt::Write>(
     f: &mut fmt::Formatter<W>,
     key: &SubjectPublicKeyInfo<'_>,
@@ -55,20 +55,20 @@ fn write_detail<W: fmt::Write>(
 fn is_rsa(algorithm: &ObjectIdentifier<'_>) -> bool
     ensures { IsTrue result ↔ (borrowed_octets algorithm.now ≡ rsa_encryption) }
 {
-    octets_of(algorithm) == RSA
+    absolute_octets(algorithm) == RSA
 }
 
 fn is_elliptic(algorithm: &ObjectIdentifier<'_>) -> bool
     ensures { IsTrue result ↔ (borrowed_octets algorithm.now ≡ ec_public_key) }
 {
-    octets_of(algorithm) == ELLIPTIC
+    absolute_octets(algorithm) == ELLIPTIC
 }
 
-/// Writes how many bits the modulus of a key has, or the octets that are no key.
+/// Writes the number of bits of an RSA modulus, or octets that aren't a key.
 fn write_size<W: fmt::Write>(f: &mut fmt::Formatter<W>, octets: &[u8]) -> fmt::Result
     ensures { WritesOne W.Write.write_str_gives f.old result (IsSize octets.now) f.new }
 {
-    match read_rsa_key(octets) {
+    match read_rsa_public_key(octets) {
         Ok(key) => write_bits(f, key.modulus),
         Err(_) => write_octets(f, "    Octets: ", octets),
     }
@@ -80,7 +80,7 @@ fn write_bits<W: fmt::Write>(f: &mut fmt::Formatter<W>, modulus: &[u8]) -> fmt::
     write!(f, "    Size: {} bits\n", bit_length(modulus))
 }
 
-/// How many bits a natural number has. The content octets of the INTEGER are given.
+/// The number of bits of a natural number, given the content octets of its INTEGER.
 fn bit_length(octets: &[u8]) -> u128
     ensures { result ≡ bit_length octets.now }
 {
@@ -91,7 +91,7 @@ fn bit_length(octets: &[u8]) -> u128
     }
 }
 
-/// Writes the name of a curve, or the parameters that name none.
+/// Writes the name of a curve, or parameters that don't name one.
 fn write_curve<W: fmt::Write>(f: &mut fmt::Formatter<W>, parameters: &[u8]) -> fmt::Result
     ensures { WritesOne W.Write.write_str_gives f.old result (IsCurve parameters.now) f.new }
 {
@@ -101,36 +101,7 @@ fn write_curve<W: fmt::Write>(f: &mut fmt::Formatter<W>, parameters: &[u8]) -> f
     }
 }
 
-/// A public key of RSA (RFC 8017 A.1.1), each number as the content octets of its INTEGER.
-#[derive(Clone, Copy)]
-struct RsaPublicKey<'a> {
-    modulus: &'a [u8],
-    public_exponent: &'a [u8],
-}
-
-fn read_rsa_key(octets: &[u8]) -> Result<RsaPublicKey<'_>, Refusal<BerError>>
-    ensures { ReadsWhole (Only (Required RSAPublicKey) Rules.Der octets.now) rsa_of Never result }
-{
-    let mut input = Cursor::new(octets);
-    let key = read_numbers(&mut input)?;
-    input.end()?;
-    Ok(key)
-}
-
-fn read_numbers<'a>(input: &mut Cursor<'a>) -> Result<RsaPublicKey<'a>, Refusal<BerError>>
-    ensures { ReadsField (Required RSAPublicKey) rsa_of Never input.old result input.new }
-{
-    let mut numbers = input.open_sequence()?;
-    let modulus = numbers.integer()?;
-    let public_exponent = numbers.integer()?;
-    numbers.end()?;
-    Ok(RsaPublicKey {
-        modulus,
-        public_exponent,
-    })
-}
-
-/// Reads the parameters of an elliptic key, which are the identifier of a curve (RFC 5480 2.1.1).
+/// Reads the parameters of an elliptic key: the identifier of a curve (RFC 5480 2.1.1).
 fn read_curve(parameters: &[u8]) -> Result<ObjectIdentifier<'_>, Refusal<BerError>>
     ensures { ReadsWhole (Only (Required IdentifierFormat) Rules.Der parameters.now) borrowed_octets Never result }
 {

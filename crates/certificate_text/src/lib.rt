@@ -1,5 +1,5 @@
-//! Certificates, lists of revoked certificates and requests in words: a line for each field, with its name and its
-//! value, two columns further in for each thing around it. No call takes memory.
+//! Summaries of certificates, CRLs and CSRs: a line for each field with its name and value, indented by two columns for
+//! each structure around it. Nothing allocates.
 #![tactic(auto)]
 
 mod certificate;

@@ -1,10 +1,10 @@
-//! What was read of a certificate that is refused (RFC 5280 4.1).
+//! The fields that were read of a rejected certificate (RFC 5280 4.1).
 ghost use Rattle.std.specs.Option.{option_map};
 ghost use Rattle.std.specs.Prelude.{Some};
 ghost use Rattle.std.specs.Fmt.{DisplaysOnOk};
 ghost use Rattle.der_print.specs.Writes.{WritesOne};
-ghost use Rattle.der_x509.specs.Certificates.{algorithm_of, bits_of, key_info_of};
-ghost use Rattle.partial_certificate.specs.Partials.{partial_of};
+ghost use Rattle.x509.specs.Certificates.{algorithm_of, bits_of, key_info_of};
+ghost use Rattle.x509.specs.Partial.Partials.{partial_of};
 ghost use Rattle.certificate_text.specs.Keys.{IsKey};
 ghost use Rattle.certificate_text.specs.Partials.{IsAlgorithmLine, IsPartialHolder, IsPartialIdentity, IsPartialKey};
 ghost use Rattle.certificate_text.specs.Partials.{IsPartialName, IsPartialText, partial_ids, partial_serial};
@@ -13,18 +13,18 @@ ghost use Rattle.certificate_text.specs.Partials.{partial_validity, partial_vers
 use crate::certificate::{write_optional_id, write_serial_line, write_version};
 use crate::key::write_key;
 use crate::validity::write_validity;
-use der_x509::{AlgorithmIdentifier, Name, SubjectPublicKeyInfo, Validity, Version};
 use extension_text::extension::write_extensions;
-use name_text::identifier::write_identifier_line;
-use name_text::name::write_name_line;
-use partial_certificate::PartialCertificate;
+use extension_text::names::identifier::write_identifier_line;
+use extension_text::names::name::write_name_line;
 use std::fmt;
+use x509::partial::PartialCertificate;
+use x509::{AlgorithmIdentifier, Name, SubjectPublicKeyInfo, Validity, Version};
 
-/// What was read of a certificate, in words.
+/// The summary of the fields that were read.
 #[derive(Clone, Copy)]
 pub struct PartialText<'r, 'a> {
     pub partial: &'r PartialCertificate<'a>,
-    /// The present, in seconds since 1970-01-01 00:00:00 UTC. With none, nothing is said of how long it is valid.
+    /// The present, in seconds since 1970-01-01 00:00:00 UTC. Without it, the days of validity aren't written.
     pub now: Option<u64>,
 }
 
@@ -34,8 +34,8 @@ impl fmt::Display for PartialText<'_, '_> {
     }
 }
 
-/// Writes the fields that were read of a certificate, each as `write_certificate` writes it. `now` is the present, in
-/// seconds since 1970-01-01 00:00:00 UTC: with none, nothing is said of how long it is valid.
+/// Writes the fields that were read, each as `write_certificate` does. `now` is the present, in seconds since
+/// 1970-01-01 00:00:00 UTC; without it, the days of validity aren't written.
 pub fn write_partial<W: fmt::Write>(
     f: &mut fmt::Formatter<W>,
     partial: &PartialCertificate<'_>,
@@ -51,7 +51,7 @@ pub fn write_partial<W: fmt::Write>(
     write_extensions(f, "  Extensions\n", partial.extensions)
 }
 
-/// Writes who issued it, and under which number.
+/// Writes the version, the serial number, the signature algorithm and the issuer.
 fn write_identity<W: fmt::Write>(
     f: &mut fmt::Formatter<W>,
     partial: &PartialCertificate<'_>,
@@ -64,7 +64,7 @@ fn write_identity<W: fmt::Write>(
     write_optional_name(f, "  Issuer: ", partial.issuer)
 }
 
-/// Writes whose key it has, and when it is valid.
+/// Writes the validity and the subject.
 fn write_holder<W: fmt::Write>(
     f: &mut fmt::Formatter<W>,
     partial: &PartialCertificate<'_>,

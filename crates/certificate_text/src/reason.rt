@@ -1,17 +1,17 @@
-//! Extensions of entries of a list of revoked certificates (RFC 5280 5.3).
+//! Extensions of CRL entries (RFC 5280 5.3).
 ghost use Rattle.std.specs.Prelude.{◌≡◌, Ok};
 ghost use Rattle.der_print.specs.Writes.{WritesOne};
 ghost use Rattle.certificate_text.specs.Lists.{IsEntryRead, IsEntryResult, IsReason, reason_name};
 
-use crl_reader::{Reason, read_reason};
 use der_extensions::{ExtensionValue, read_extension_value};
-use der_x509::Extension;
 use extension_text::general_name::write_general_names;
+use extension_text::names::lines::{write_moment, write_octets};
 use extension_text::unread::{error_in, write_unread};
-use name_text::lines::{write_moment, write_octets};
 use std::fmt;
+use x509::Extension;
+use x509::crl::{Reason, read_reason};
 
-/// Writes the value of an extension of an entry: what it says, or its octets, after why it isn't of its type.
+/// Writes the value of an entry's extension, or its error and its octets if it has another type.
 pub(crate) fn write_entry_value<W: fmt::Write>(
     f: &mut fmt::Formatter<W>,
     extension: &Extension<'_>,
@@ -44,7 +44,7 @@ fn write_read_value<W: fmt::Write>(
     }
 }
 
-/// Writes a reason (5.3.1), or why octets are none.
+/// Writes a reason (RFC 5280 5.3.1), or the error of octets that aren't one.
 fn write_reason<W: fmt::Write>(f: &mut fmt::Formatter<W>, octets: &[u8]) -> fmt::Result
     ensures { WritesOne W.Write.write_str_gives f.old result (IsReason octets.now) f.new }
 {
@@ -54,7 +54,7 @@ fn write_reason<W: fmt::Write>(f: &mut fmt::Formatter<W>, octets: &[u8]) -> fmt:
     }
 }
 
-/// The name of a reason in its ASN.1.
+/// The name of a reason in the ASN.1.
 fn reason_name(reason: Reason) -> &'static str
     ensures { result.now ≡ reason_name reason }
 {

@@ -4,7 +4,7 @@ ghost use Rattle.std.specs.Fmt.{DisplaysOnOk};
 ghost use Rattle.der_cursor.specs.Elements.{element_of};
 ghost use Rattle.der_print.specs.Writes.{WritesOne};
 ghost use Rattle.der_values.specs.Kinds.{borrowed_octets};
-ghost use Rattle.der_request.specs.Requests.{attribute_of, info_of, request_of};
+ghost use Rattle.x509_keys.specs.Request.Requests.{attribute_of, info_of, request_of};
 ghost use Rattle.certificate_text.specs.Requests.{AreAttributes, AreValues, IsOtherAttribute, IsRequestAttribute};
 ghost use Rattle.certificate_text.specs.Requests.{IsPassword, IsRequestBody, IsRequestText, IsRequested};
 ghost use Rattle.certificate_text.specs.Requests.{IsUnrequested, challenge_password_octets};
@@ -13,16 +13,17 @@ ghost use Rattle.certificate_text.specs.Requests.{extension_request_octets, valu
 use crate::key::write_key;
 use crate::seal::write_signature;
 use der_base::any::Any;
-use der_request::{
+use der_values::ObjectIdentifier;
+use extension_text::extension::write_extensions;
+use extension_text::names::element::AnyValue;
+use extension_text::names::identifier::write_identifier_line;
+use extension_text::names::name::write_name_line;
+use std::fmt;
+use x509::absolute_octets;
+use x509_keys::request::{
     Attribute, Attributes, CertificationRequest, CertificationRequestInfo, Values,
     read_challenge_password, read_extension_request,
 };
-use der_values::ObjectIdentifier;
-use extension_text::extension::write_extensions;
-use name_text::element::AnyValue;
-use name_text::identifier::{octets_of, write_identifier_line};
-use name_text::name::write_name_line;
-use std::fmt;
 
 /// extensionRequest: 1.2.840.113549.1.9.14 (RFC 2985 5.4.2).
 const EXTENSION_REQUEST: &[u8] = b"\x2a\x86\x48\x86\xf7\x0d\x01\x09\x0e";
@@ -30,7 +31,7 @@ const EXTENSION_REQUEST: &[u8] = b"\x2a\x86\x48\x86\xf7\x0d\x01\x09\x0e";
 /// challengePassword: 1.2.840.113549.1.9.7 (RFC 2985 5.4.1).
 const CHALLENGE_PASSWORD: &[u8] = b"\x2a\x86\x48\x86\xf7\x0d\x01\x09\x07";
 
-/// A certification request in words.
+/// The summary of a certification request.
 #[derive(Clone, Copy)]
 pub struct RequestText<'r, 'a> {
     pub request: &'r CertificationRequest<'a>,
@@ -42,7 +43,7 @@ impl fmt::Display for RequestText<'_, '_> {
     }
 }
 
-/// Writes a certification request in words.
+/// Writes the summary of a certification request.
 pub fn write_request<W: fmt::Write>(
     f: &mut fmt::Formatter<W>,
     request: &CertificationRequest<'_>,
@@ -59,7 +60,7 @@ pub fn write_request<W: fmt::Write>(
     write_signature(f, request.signature.octets)
 }
 
-/// Writes the fields that are signed. The version is the only one.
+/// Writes the signed fields, without the version: there is only one.
 fn write_info<W: fmt::Write>(
     f: &mut fmt::Formatter<W>,
     info: &CertificationRequestInfo<'_>,
@@ -84,7 +85,7 @@ fn write_attributes<W: fmt::Write>(
     Ok(())
 }
 
-/// Writes the extensions that are requested, a password, or another attribute.
+/// Writes the requested extensions, a password, or another attribute.
 fn write_attribute<W: fmt::Write>(
     f: &mut fmt::Formatter<W>,
     attribute: &Attribute<'_>,
@@ -100,10 +101,10 @@ fn write_attribute<W: fmt::Write>(
 fn is_extension_request(identifier: &ObjectIdentifier<'_>) -> bool
     ensures { IsTrue result ↔ (borrowed_octets identifier.now ≡ extension_request_octets) }
 {
-    octets_of(identifier) == EXTENSION_REQUEST
+    absolute_octets(identifier) == EXTENSION_REQUEST
 }
 
-/// Writes the extensions that are requested, or the values that are none.
+/// Writes the requested extensions, or values that aren't any.
 fn write_requested<W: fmt::Write>(
     f: &mut fmt::Formatter<W>,
     attribute: &Attribute<'_>,
@@ -132,10 +133,10 @@ fn write_unrequested<W: fmt::Write>(
 fn is_challenge_password(identifier: &ObjectIdentifier<'_>) -> bool
     ensures { IsTrue result ↔ (borrowed_octets identifier.now ≡ challenge_password_octets) }
 {
-    octets_of(identifier) == CHALLENGE_PASSWORD
+    absolute_octets(identifier) == CHALLENGE_PASSWORD
 }
 
-/// Writes the password by which a certificate may be revoked, or the values that are none.
+/// Writes the challenge password, or values that aren't one.
 fn write_password<W: fmt::Write>(
     f: &mut fmt::Formatter<W>,
     attribute: &Attribute<'_>,

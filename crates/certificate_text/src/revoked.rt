@@ -1,10 +1,10 @@
-//! Lists of revoked certificates (RFC 5280 5.1).
+//! CRLs (RFC 5280 5.1).
 ghost use Rattle.std.specs.Option.{option_map};
 ghost use Rattle.std.specs.Prelude.{Some};
 ghost use Rattle.std.specs.Fmt.{DisplaysOnOk};
-ghost use Rattle.crl_reader.specs.Lists.{certificate_list_of, revoked_of, tbs_of};
+ghost use Rattle.x509.specs.Crl.Lists.{certificate_list_of, revoked_of, tbs_of};
 ghost use Rattle.der_print.specs.Writes.{WritesOne};
-ghost use Rattle.der_x509.specs.Certificates.{extension_of};
+ghost use Rattle.x509.specs.Certificates.{extension_of};
 ghost use Rattle.certificate_text.specs.Lists.{AreEntries, AreEntryExtensions, AreOptionalEntries, IsEntry};
 ghost use Rattle.certificate_text.specs.Lists.{IsEntryExtension, IsListBody, IsListText, updates_text};
 ghost use Rattle.certificate_text.specs.Lists.{next_update_text};
@@ -14,21 +14,21 @@ use crate::expiry::write_optional_expiry;
 use crate::reason::write_entry_value;
 use crate::seal::{write_digests, write_signature};
 use crate::validity::write_time;
-use crl_reader::{CertificateList, RevokedCertificate, RevokedCertificates, TbsCertList};
-use der_x509::{Extension, Extensions, Time};
 use extension_text::extension::{write_extensions, write_heading};
-use name_text::identifier::write_identifier_line;
-use name_text::name::write_name_line;
-use name_text::serial::Serial;
+use extension_text::names::identifier::write_identifier_line;
+use extension_text::names::name::write_name_line;
+use extension_text::names::serial::Serial;
 use std::fmt;
+use x509::crl::{CertificateList, RevokedCertificate, RevokedCertificates, TbsCertList};
+use x509::{Extension, Extensions, Time};
 
-/// A list of revoked certificates in words.
+/// The summary of a CRL.
 #[derive(Clone, Copy)]
 pub struct ListText<'r, 'a> {
-    /// The octets that it was read from.
+    /// The octets of the CRL.
     pub octets: &'a [u8],
     pub list: &'r CertificateList<'a>,
-    /// The present, in seconds since 1970-01-01 00:00:00 UTC. With none, nothing is said of the next update.
+    /// The present, in seconds since 1970-01-01 00:00:00 UTC. Without it, the days to the next update aren't written.
     pub now: Option<u64>,
 }
 
@@ -38,8 +38,8 @@ impl fmt::Display for ListText<'_, '_> {
     }
 }
 
-/// Writes a list of revoked certificates in words, with a part for each of them. `octets` is what it was read from, and
-/// `now` the present, in seconds since 1970-01-01 00:00:00 UTC: with none, nothing is said of how long it is valid.
+/// Writes the summary of a CRL, with a part for each entry. `octets` is its encoding, and `now` the present, in seconds
+/// since 1970-01-01 00:00:00 UTC; without it, the days to the next update aren't written.
 pub fn write_list<W: fmt::Write>(
     f: &mut fmt::Formatter<W>,
     octets: &[u8],
@@ -55,7 +55,7 @@ pub fn write_list<W: fmt::Write>(
     write_digests(f, octets)
 }
 
-/// Writes the fields that are signed.
+/// Writes the signed fields.
 fn write_list_body<W: fmt::Write>(
     f: &mut fmt::Formatter<W>,
     fields: &TbsCertList<'_>,
@@ -71,7 +71,7 @@ fn write_list_body<W: fmt::Write>(
     write_optional_entries(f, fields.revoked_certificates)
 }
 
-/// Writes when a list was made, and when the next one is.
+/// Writes the times of this update and of the next one.
 fn write_updates<W: fmt::Write>(
     f: &mut fmt::Formatter<W>,
     this: Time,
@@ -128,7 +128,7 @@ fn write_entries<W: fmt::Write>(
     Ok(())
 }
 
-/// Writes the number of a certificate, when it was revoked, and why.
+/// Writes the serial number, the date and the extensions of an entry.
 fn write_entry<W: fmt::Write>(
     f: &mut fmt::Formatter<W>,
     entry: &RevokedCertificate<'_>,

@@ -1,4 +1,4 @@
-//! What follows the signed part: the signature, and digests of the whole.
+//! The signature, and digests of the whole.
 ghost use Rattle.std.specs.Prelude.{Some};
 ghost use Rattle.std.specs.Fmt.{DisplaysOnOk};
 ghost use Rattle.certificate_text.specs.Values.{digests_text, signature_text};
@@ -8,7 +8,7 @@ use sha1::Sha1;
 use sha2::{Digest, Sha256};
 use std::fmt;
 
-/// Writes how many octets a signature has.
+/// Writes the number of octets of a signature.
 pub(crate) fn write_signature<W: fmt::Write>(
     f: &mut fmt::Formatter<W>,
     octets: &[u8],
@@ -18,7 +18,7 @@ pub(crate) fn write_signature<W: fmt::Write>(
     write!(f, "  Signature: {} octets\n", octets.len())
 }
 
-/// Writes the digests of the octets of a whole certificate or list: its fingerprints.
+/// Writes the digests of a whole certificate or CRL: its fingerprints.
 pub(crate) fn write_digests<W: fmt::Write>(f: &mut fmt::Formatter<W>, octets: &[u8]) -> fmt::Result
     ensures { DisplaysOnOk W.Write.write_str_gives f.old result (Some (digests_text octets.now)) f.new }
 {

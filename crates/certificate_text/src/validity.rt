@@ -1,16 +1,16 @@
-//! Times.
+//! When a certificate or a CRL is valid.
 ghost use Rattle.std.specs.Prelude.{Some};
 ghost use Rattle.std.specs.Fmt.{DisplaysOnOk};
-ghost use Rattle.der_x509.specs.Certificates.{moment_of};
-ghost use Rattle.name_text.specs.Values.{time_line};
+ghost use Rattle.x509.specs.Certificates.{moment_of};
+ghost use Rattle.extension_text.specs.Names.Values.{time_line};
 ghost use Rattle.certificate_text.specs.Values.{validity_text};
 
 use crate::expiry::write_optional_expiry;
-use der_x509::{Time, Validity};
-use name_text::lines::write_moment;
+use extension_text::names::lines::write_moment;
 use std::fmt;
+use x509::{Time, Validity};
 
-/// Writes a line of a time. The year of a `Time` is complete.
+/// Writes a line with a time. The year of a `Time` is complete.
 pub(crate) fn write_time<W: fmt::Write>(
     f: &mut fmt::Formatter<W>,
     label: &str,
@@ -22,7 +22,7 @@ pub(crate) fn write_time<W: fmt::Write>(
     write_moment(f, label, time.moment())
 }
 
-/// Writes from when and until when a certificate is valid, and how long that is from now.
+/// Writes the start and the end of a validity, and the days from now to the end.
 pub(crate) fn write_validity<W: fmt::Write>(
     f: &mut fmt::Formatter<W>,
     validity: Validity,

@@ -1,7 +1,7 @@
 -- The elements of a walk that are listed.
 use Rattle.std.proofs.Common.{◌≡◌, ◌≢◌, ◌∙◌, Bool, IsTrue, MatchBool, List, [], ◌∷◌, ◌++◌, ap, false, refl, subst, sym, true, ℕ}
 use Rattle.std.specs.Prelude.{◌↔◌, ◌||◌, Option}
-use Rattle.der_walk.specs.Visits.{Visited}
+use Rattle.der_elements.specs.Visits.{Visited}
 use Rattle.der_actions.specs.declared.listing.Listing.{Listing}
 use Rattle.der_actions.specs.declared.options.Options.{Options}
 use Rattle.der_actions.specs.Choices.{HasChosen, Listed, Lists, listed, listed_after, passed}

@@ -6,10 +6,10 @@ use Rattle.std.proofs.lemmas.List.{map-append}
 use Rattle.der_print.specs.Lines.{content_in}
 use Rattle.der_print.specs.Texts.{content_of}
 use Rattle.der_print.proofs.LineLaws.{content_is}
-use Rattle.der_walk.specs.declared.element.Element.{Element}
-use Rattle.der_walk.specs.declared.walk.Walk.{Walk}
-use Rattle.der_walk.specs.Visits.{Visited}
-use Rattle.der_walk.specs.Walked.{HasOctets, HasVisited, visited_of}
+use Rattle.der_elements.specs.declared.element.Element.{Element}
+use Rattle.der_elements.specs.declared.walk.Walk.{Walk}
+use Rattle.der_elements.specs.Visits.{Visited}
+use Rattle.der_elements.specs.Walked.{HasOctets, HasVisited, visited_of}
 use Rattle.der_actions.specs.declared.options.Options.{Options}
 use Rattle.der_actions.specs.Differences.{compared, compared_in, is_entered}
 use Rattle.der_actions.specs.Outputs.{extras_of}

@@ -3,11 +3,11 @@ use Rattle.std.proofs.Common.{◌≡◌, ◌∙◌, ℕ, Option, Some, None, Lis
 use Rattle.der_actions.specs.declared.fields.Field.{Field}
 use Rattle.der_actions.specs.FieldNames.{HasFollowedSo, HasNamedSo, HasStepsSo, IsFieldIn}
 use Rattle.der_actions.specs.Namings.{IsExposedBy, field_in}
-use Rattle.der_fields.specs.declared.secrets.Exposure.TheVariants.{Full}
+use Rattle.text_json.specs.declared.fields.secrets.Exposure.TheVariants.{Full}
 use Rattle.der_actions.proofs.NamePaths.{steps_more}
-use Rattle.der_fields.specs.declared.secrets.Secrets.{Secrets}
-use Rattle.der_fields.specs.Fields.{label_after, label_text}
-use Rattle.der_fields.specs.Secrets.{Follows, IsExposure}
+use Rattle.text_json.specs.declared.fields.secrets.Secrets.{Secrets}
+use Rattle.text_json.specs.Fields.Fields.{label_after, label_text}
+use Rattle.text_json.specs.Fields.Secrets.{Follows, IsExposure}
 use Rattle.der_schema.specs.declared.matching.Name.{Name}
 use Rattle.der_schema.specs.declared.name_path.NameStep.{NameStep}
 use Rattle.der_schema.specs.declared.namer.Namer.{Namer}
@@ -16,8 +16,8 @@ use Rattle.der_schema.specs.Meaning.{Root, root_of}
 use Rattle.der_schema.specs.Named.{HasNamed, NamesNext}
 use Rattle.der_schema.specs.NamePaths.{name_step}
 use Rattle.der_schema.specs.Steps.{label_of}
-use Rattle.der_walk.specs.Visits.{Visited}
-use Rattle.der_walk.specs.Walked.{index_in}
+use Rattle.der_elements.specs.Visits.{Visited}
+use Rattle.der_elements.specs.Walked.{index_in}
 
 -- what is known after one more element
 pub record IsNamedNext (s : Option Schema) (i : List ℕ) (vs : List Visited) (v : Visited) (n : Option Namer)

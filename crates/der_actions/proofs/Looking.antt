@@ -1,8 +1,8 @@
 -- The search for the element at a place.
 use Rattle.std.proofs.Common.{ℕ, Option, List, [], ◌∷◌, ◌++◌, ◌≡◌, ◌∙◌, sym, take}
-use Rattle.der_walk.specs.declared.walk.Walk.{Walk}
-use Rattle.der_walk.specs.Visits.{Visited}
-use Rattle.der_walk.specs.Walked.{HasVisited, index_in}
+use Rattle.der_elements.specs.declared.walk.Walk.{Walk}
+use Rattle.der_elements.specs.Visits.{Visited}
+use Rattle.der_elements.specs.Walked.{HasVisited, index_in}
 use Rattle.der_actions.specs.declared.fields.Fields.{Fields}
 use Rattle.der_actions.specs.declared.options.Options.{Options}
 use Rattle.der_actions.specs.declared.trail.Trail.{Trail}

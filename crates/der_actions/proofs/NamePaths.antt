@@ -5,7 +5,7 @@ use Rattle.std.specs.Prelude.{◌↔◌, decimal, drop, map}
 use Rattle.std.proofs.lemmas.List.{map-append, take-map}
 use Rattle.der_actions.specs.FieldNames.{HasNamedSo, HasStepsSo}
 use Rattle.der_actions.specs.Paths.{HasNamePath, Labelled, labelled, labelled_step, labels_from, labels_of, step_at}
-use Rattle.der_fields.specs.Fields.{label_after}
+use Rattle.text_json.specs.Fields.Fields.{label_after}
 use Rattle.der_schema.specs.declared.matching.Name.{Name}
 use Rattle.der_schema.specs.declared.name_path.NameStep.{NameStep}
 use Rattle.der_schema.specs.declared.namer.Namer.{Namer}
@@ -14,10 +14,10 @@ use Rattle.der_schema.specs.Meaning.{Label, Root, root_of}
 use Rattle.der_schema.specs.NamePaths.{further_names, is_empty, is_silent, is_silent_by, name_path_text, name_step}
 use Rattle.der_schema.specs.NamePaths.{name_step_text, point_by, shown, shown_text, text_by}
 use Rattle.der_schema.specs.Steps.{label_of}
-use Rattle.der_walk.specs.declared.path.Step.{Step}
-use Rattle.der_walk.specs.Paths.{step_text}
-use Rattle.der_walk.specs.Visits.{Visited}
-use Rattle.der_walk.specs.Walked.{index_in}
+use Rattle.der_elements.specs.declared.path.Step.{Step}
+use Rattle.der_elements.specs.Paths.{step_text}
+use Rattle.der_elements.specs.Visits.{Visited}
+use Rattle.der_elements.specs.Walked.{index_in}
 
 -- the text of a path depends on its steps and on what the type says of them
 

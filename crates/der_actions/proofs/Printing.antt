@@ -2,19 +2,19 @@
 use Rattle.std.proofs.Common.{◌≡◌, ◌⊎◌, inl, inr, ℕ, MatchBool, false, true, Bool, Err, IfOk, IsTrue, Ok, OnOk, Option, Result, List, [], ◌∷◌, ◌++◌, codes, refl, subst, sym}
 use Rattle.std.proofs.KnownBytes.{Appends-kept, Appends-nil, Appends-trans}
 use Rattle.std.specs.Io.KnownBytes.{Appends, Keeps}
-use Rattle.der_fields.specs.declared.secrets.Exposure.{Exposure}
-use Rattle.der_fields.specs.declared.secrets.Exposure.TheVariants.{Full, Outline, Nothing}
-use Rattle.der_fields.specs.Lines.{AddsExposed}
-use Rattle.der_fields.proofs.FieldLaws.{exposed_in}
+use Rattle.text_json.specs.declared.fields.secrets.Exposure.{Exposure}
+use Rattle.text_json.specs.declared.fields.secrets.Exposure.TheVariants.{Full, Outline, Nothing}
+use Rattle.text_json.specs.Fields.Lines.{AddsExposed}
+use Rattle.text_json.proofs.FieldsLaws.FieldLaws.{exposed_in}
 use Rattle.der_print.specs.Lines.{content_in}
 use Rattle.der_print.specs.Names.{table_of}
 use Rattle.der_print.specs.Texts.{content_of}
 use Rattle.der_print.proofs.LineLaws.{content_is}
 use Rattle.der_schema.specs.declared.schema.Schema.{Schema}
-use Rattle.der_walk.specs.declared.element.Element.{Element}
-use Rattle.der_walk.specs.declared.walk.Walk.{Walk}
-use Rattle.der_walk.specs.Visits.{Visited, Visits}
-use Rattle.der_walk.specs.Walked.{HasOctets, HasVisited, visited_of}
+use Rattle.der_elements.specs.declared.element.Element.{Element}
+use Rattle.der_elements.specs.declared.walk.Walk.{Walk}
+use Rattle.der_elements.specs.Visits.{Visited, Visits}
+use Rattle.der_elements.specs.Walked.{HasOctets, HasVisited, visited_of}
 use Rattle.der_actions.specs.declared.fields.Field.{Field}
 use Rattle.der_actions.specs.declared.fields.Fields.{Fields}
 use Rattle.der_actions.specs.declared.listing.Listing.{Listing}

@@ -1,8 +1,8 @@
 -- The path to the element that was visited last.
 use Rattle.std.proofs.Common.{◌≡◌, ◌∙◌, OnOk, Result, Ok, Err, Option, Some, None, List, [], ◌∷◌, ◌++◌, ap, append-nil, append_assoc, refl, sym, take, ℕ}
-use Rattle.der_walk.specs.declared.path.Step.{Step}
-use Rattle.der_walk.specs.Visits.{Visited}
-use Rattle.der_walk.specs.Walked.{index_in}
+use Rattle.der_elements.specs.declared.path.Step.{Step}
+use Rattle.der_elements.specs.Visits.{Visited}
+use Rattle.der_elements.specs.Walked.{index_in}
 use Rattle.der_actions.specs.declared.place.Place.{Place}
 use Rattle.der_actions.specs.declared.place.Place.TheVariants.{Path, Offset}
 use Rattle.der_actions.specs.declared.trail.Trail.{Trail}

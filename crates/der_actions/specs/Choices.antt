@@ -1,13 +1,13 @@
--- Which elements are listed.
+-- The elements that are listed.
 use Rattle.std.specs.Prelude.{◌≡◌, ◌≢◌, ◌↔◌, ℕ, Bool, true, false, IsTrue, Option, None, List, [], ◌∷◌, ◌++◌}
 use Rattle.der_actions.specs.Places.{FollowsPath, IsAsked, around_after, is_listed}
 use Rattle.der_actions.specs.declared.listing.Listing.{Listing}
 use Rattle.der_actions.specs.declared.options.Options.{Options}
 use Rattle.der_actions.specs.declared.place.Place.{Place}
 use Rattle.der_schema.specs.declared.schema.Schema.{Schema}
-use Rattle.der_walk.specs.Visits.{Visited}
+use Rattle.der_elements.specs.Visits.{Visited}
 
--- an element that is listed, and those that were visited before it
+-- a listed element, and those that were visited before it
 pub record Listed : Type 0 where
   pub before : List Visited
   pub element : Visited
@@ -15,8 +15,8 @@ pub record Listed : Type 0 where
 abbrev pub listed_after : List Visited → Visited → Listed
 listed_after before v = record { before = before; element = v }
 
--- Of the elements of i that were visited some are listed: those at the place and inside them, to a depth. So many are
--- around the one that the walk is inside. Paths have the names of a type, if there is one.
+-- Some of the visited elements of i are listed: those at the place, and those inside them up to a depth. The walk is
+-- inside one at the place with this depth, if it is inside one. Paths have the names of a type, if there is one.
 pub data Lists (s : Option Schema) (i : List ℕ) (place : Option Place) (most : Option ℕ)
     : List Visited → Option ℕ → List Listed → Type 0 where
   start : Lists s i place most [] None []
@@ -29,11 +29,11 @@ pub data Lists (s : Option Schema) (i : List ℕ) (place : Option Place) (most :
       → (IsTrue asked ↔ IsAsked s i place vs v) → is_listed (around_after around asked v.depth) most v.depth ≡ false
       → Lists s i place most (vs ++ v ∷ []) (around_after around asked v.depth) us
 
--- of the elements vs of i, after which the walk ends, us are listed
+-- a walk through i visits the elements vs, and us of them are listed
 abbrev pub AreListed : Option Schema → List ℕ → Options → List Visited → List Listed → Type 0
 AreListed s i o vs us = (around : Option ℕ) × Lists s i o.place o.depth vs around us
 
--- so far
+-- a walk through i has visited the elements vs so far, and us of them are listed
 pub record HasChosen (s : Option Schema) (i : List ℕ) (o : Options) (l : Listing) (vs : List Visited)
     (us : List Listed) : Type 0 where
   pub place : l.place ≡ o.place

@@ -3,17 +3,17 @@ use Rattle.std.specs.Prelude.{◌≡◌, ℕ, ◌+◌, ◌-◌, Bool, true, fals
 use Rattle.std.specs.Prelude.{List, ◌++◌, drop, length, take}
 use Rattle.std.specs.Io.KnownBytes.{Appends}
 use Rattle.der_base.specs.declared.rules.Rules.TheVariants.{Ber}
-use Rattle.der_check.specs.Elements.{IsElement}
+use Rattle.der_elements.specs.Check.Elements.{IsElement}
 use Rattle.der_actions.specs.declared.options.Options.{Options}
-use Rattle.der_walk.specs.Visits.{Visited}
+use Rattle.der_elements.specs.Visits.{Visited}
 
--- the octets of an element in an input: from its offset on as many as its header and its content have; of an
+-- the octets of an element in an input: from its offset on, as many as its header and its content have; with an
 -- indefinite length, those that are an element of BER (X.690 8.1.3.6)
 abbrev pub AreOctetsOf : List ℕ → Visited → List ℕ → Type 0
 AreOctetsOf i v w = (rest : List ℕ) × (drop v.offset i ≡ w ++ rest)
     × MatchOption v.length (IsElement Ber 101 w) (λ n. length w ≡ v.header + n)
 
--- the octets of a content: those of its element without the header, and without the end marker of an indefinite length
+-- the octets of a content: those of its element without the header and without end-of-contents octets
 abbrev pub content_within : Option ℕ → ℕ → List ℕ → List ℕ
 content_within (Some n) header w = drop header w
 content_within None header w = let c = drop header w in take (length c - 2) c

@@ -1,4 +1,4 @@
-//! The elements of an input as DER writes them.
+//! The DER encoding of an input.
 ghost use Rattle.std.specs.Prelude.{◌≡◌, ℕ, IfOk, IsTrue, List, None, OnOk, Some, false};
 ghost use Rattle.std.specs.Io.KnownBytes.{Appends};
 ghost use Rattle.der_actions.specs.Outputs.{RefusesDer, WritesDer, WritesPem};
@@ -10,15 +10,16 @@ use crate::origin::Origin;
 use crate::report::report_place;
 use base64::engine::general_purpose::STANDARD;
 use der_canon::{CanonError, canonical};
-use der_walk::Reason;
+use der_elements::Reason;
 use std::alloc::Global;
 use std::io;
 use std::io::{ErrorKind, Write};
 
-/// How many characters a line of base64 has in PEM (RFC 7468 2).
+/// The number of base64 characters in a line of PEM (RFC 7468 2).
 const LINE: usize = 64;
 
-/// Writes octets as DER writes them: as they are, or in PEM with the label of their block.
+/// Writes the DER encoding of octets: as octets, or in PEM with the label of their block. Returns whether it was
+/// written. If not, reports on `err` where and why.
 pub fn write_canonical<W: Write, X: Write>(
     alloc: Global,
     origin: Origin<'_>,
@@ -54,7 +55,7 @@ pub fn write_canonical<W: Write, X: Write>(
     }
 }
 
-/// Writes octets as a block of PEM (RFC 7468).
+/// Writes octets as a PEM block (RFC 7468).
 fn write_pem<W: Write>(alloc: Global, label: &[u8], octets: &[u8], out: &mut W) -> io::Result<()>
     ensures { OnOk result ((text : List ℕ) × IsPem label.now octets.now text
         × Appends (W.contents out.old) (W.contents out.new) text) }

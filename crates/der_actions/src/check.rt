@@ -1,4 +1,4 @@
-//! Whether octets are what a check asks for.
+//! The check of an input.
 ghost use Rattle.std.specs.Prelude.{◌≡◌, ◌↔◌, IfOk, IsTrue, true};
 ghost use Rattle.der_actions.specs.Outputs.{IsChecked};
 
@@ -9,8 +9,8 @@ use crate::report::{are_some_elements, report_check};
 use std::io;
 use std::io::Write;
 
-/// Checks whether octets are elements, one at least, and nothing else, of the type that is asked for, if one is, and
-/// reports where and why they aren't.
+/// Checks whether octets are one or more valid elements and nothing else, and have the type of the options, if there is
+/// one. If not, reports where and why on `out`. Returns whether they are.
 pub fn check<W: Write>(
     options: &Options<'_>,
     origin: Origin<'_>,
@@ -30,7 +30,7 @@ pub fn check<W: Write>(
     Ok(false)
 }
 
-/// Whether octets are elements, one at least, and nothing else, of the type that is asked for, if one is.
+/// Whether octets are one or more valid elements and nothing else, and have the type of the options, if there is one.
 fn is_checked(options: &Options<'_>, octets: &[u8]) -> bool
     ensures { IsTrue result ↔ IsChecked options.now octets.now }
 {

@@ -2,14 +2,14 @@
 ghost use Rattle.std.specs.Prelude.{◌≡◌, ◌↔◌, IfOk, IsTrue, List, MatchOption, [], if◌then◌else◌, map};
 ghost use Rattle.der_actions.specs.Differences.{AreElementsOf, Compares, compared, is_entered};
 ghost use Rattle.der_actions.specs.Outputs.{IsRefusedAfter};
-ghost use Rattle.der_walk.specs.Visits.{Visited};
+ghost use Rattle.der_elements.specs.Visits.{Visited};
 ghost use Rattle.der_print.specs.Texts.{content_of};
 
 use crate::options::Options;
 use crate::origin::Origin;
 use crate::report::report;
+use der_elements::{Element, Walk};
 use der_print::{Limit, Room, Style, octets_or_none, write_named_line};
-use der_walk::{Element, Walk};
 use oid_names::OwnNames;
 use std::alloc::{AllocError, Global};
 use std::cmp::Ordering;
@@ -31,8 +31,8 @@ pub enum Difference {
     Different,
 }
 
-/// Compares the elements of two inputs, and prints those that differ: a line of a tree after `-` for one of the old
-/// input, after `+` for one of the new. None if an input is refused, which is reported.
+/// Compares the elements of two inputs, and prints those that differ as lines of a tree: after `-` one of the old
+/// input, after `+` one of the new. None if an input isn't valid, which is reported.
 pub fn compare<W: Write, X: Write>(
     alloc: Global,
     options: &Options<'_>,
@@ -55,7 +55,7 @@ pub fn compare<W: Write, X: Write>(
     Ok(Some(Difference::Different))
 }
 
-/// The elements of an input. None if it is refused, which is reported.
+/// The elements of an input. None if it isn't valid, which is reported.
 fn elements_of<'a, X: Write>(
     alloc: Global,
     options: &Options<'_>,
@@ -80,7 +80,7 @@ fn elements_of<'a, X: Write>(
     }
 }
 
-/// Whether elements are alike one by one.
+/// Whether two lists of elements are alike, element by element.
 fn are_alike(old: &[Element<'_>], new: &[Element<'_>]) -> bool
     ensures { IsTrue result ↔ (map compared old.now ≡ map compared new.now) }
 {
@@ -95,7 +95,7 @@ fn are_alike(old: &[Element<'_>], new: &[Element<'_>]) -> bool
     true
 }
 
-/// Whether two elements have the same depth, class, number and form, and the same content if that is no elements.
+/// Whether two elements have the same depth, class, number and form, and the same content unless it is elements.
 fn is_alike(old: &Element<'_>, new: &Element<'_>) -> bool
     ensures { IsTrue result ↔ (compared old.now ≡ compared new.now) }
 {
@@ -107,7 +107,7 @@ fn is_alike(old: &Element<'_>, new: &Element<'_>) -> bool
         && own_content(old) == own_content(new)
 }
 
-/// The content octets of an element, and none if they are elements.
+/// The content octets of an element. Empty if they are elements.
 fn own_content<'a>(element: &Element<'a>) -> &'a [u8]
     ensures { result.now ≡ (if is_entered element.now.constructed element.now.holds then []
         else content_of element.now) }
@@ -118,7 +118,7 @@ fn own_content<'a>(element: &Element<'a>) -> &'a [u8]
     octets_or_none(element.content)
 }
 
-/// Prints the elements that differ, or that one input alone has. Elements with the same indexes are a pair.
+/// Prints the elements that differ, or that only one input has. Two elements with the same indexes are compared.
 fn print_differences<W: Write>(
     alloc: Global,
     options: &Options<'_>,
@@ -148,10 +148,10 @@ fn print_differences<W: Write>(
     Ok(())
 }
 
-/// The columns of a sign and its space.
+/// The number of columns for a sign and a space.
 const SIGN: usize = 2;
 
-/// The style of a line behind a sign.
+/// The style of a line after a sign.
 fn behind_sign(style: Style) -> Style {
     let limit = match style.limit {
         Limit::Columns(columns) => Limit::Columns(columns.saturating_sub(SIGN)),
@@ -160,13 +160,13 @@ fn behind_sign(style: Style) -> Style {
     Style { limit, ..style }
 }
 
-/// The elements of an input, of which the first ones are compared.
+/// The elements of an input. The first ones were compared.
 #[derive(Drop)]
 struct Side<'a, 'e> {
     elements: &'e [Element<'a>],
-    /// How many are compared.
+    /// The number of elements that were compared.
     at: usize,
-    /// The indexes of the steps to the next one.
+    /// The indexes of the steps to the next element.
     indexes: Vec<usize>,
 }
 
@@ -188,7 +188,7 @@ impl<'a, 'e> Side<'a, 'e> {
         Ok(())
     }
 
-    /// Which of two next elements is before the other, by their indexes. None if there is none.
+    /// Whose next element comes first, by the indexes. None if neither side has one left.
     fn order(&self, other: &Side<'_, '_>) -> Option<Ordering> {
         match (self.is_at_end(), other.is_at_end()) {
             (true, true) => None,
@@ -198,7 +198,7 @@ impl<'a, 'e> Side<'a, 'e> {
         }
     }
 
-    /// Whether all elements are compared.
+    /// Whether all elements were compared.
     fn is_at_end(&self) -> bool {
         self.at >= self.elements.len()
     }
@@ -211,7 +211,7 @@ impl<'a, 'e> Side<'a, 'e> {
         }
     }
 
-    /// Goes on after the next element, and prints its line behind a sign, unless it is alike.
+    /// Moves past the next element, and prints its line after a sign unless it is alike.
     fn pass<'n, W: Write>(
         &mut self,
         is_alike: bool,

@@ -1,40 +1,40 @@
-//! The names of the fields that elements are, and the paths made of them.
+//! The names of fields, and the paths of names.
 ghost use Rattle.std.specs.Prelude.{◌≡◌, ◌≤◌, ◌↔◌, ◌∷◌, ◌++◌, [], IfOk, IsTrue, List, Option, ℕ, option_map};
 ghost use Rattle.std.specs.Prelude.{string_bytes, take};
 ghost use Rattle.der_actions.specs.FieldNames.{HasNamedBy, HasNamedSo, IsFieldIn};
 ghost use Rattle.der_actions.specs.Paths.{HasNamePath, IsNamePathOf};
-ghost use Rattle.der_fields.specs.Fields.{label_text};
+ghost use Rattle.text_json.specs.Fields.Fields.{label_text};
 ghost use Rattle.der_schema.specs.declared.schema.Schema.{Schema};
 ghost use Rattle.der_schema.specs.NamePaths.{name_path_text, name_step};
 ghost use Rattle.der_schema.specs.Steps.{label_of};
-ghost use Rattle.der_walk.specs.Visits.{Visited};
-ghost use Rattle.der_walk.specs.Walked.{index_in, visited_of};
+ghost use Rattle.der_elements.specs.Visits.{Visited};
+ghost use Rattle.der_elements.specs.Walked.{index_in, visited_of};
 
-use der_fields::{Exposure, Secrets};
+use der_elements::{Element, MAX_DEPTH};
 use der_schema::{Name, NamePath, Namer, Schema};
-use der_walk::{Element, MAX_DEPTH};
 use std::alloc::{AllocError, Global};
+use text_json::fields::{Exposure, Secrets};
 
-/// What a type says of an element.
+/// What a type tells about an element.
 #[derive(Clone, Copy)]
 pub(crate) struct Field {
-    /// The name of the field that it is. It is empty if the type has none for it.
+    /// The name of the field. Empty if the type has none.
     pub name: &'static str,
-    /// How much may be printed of it.
+    /// How much of the element may be printed.
     pub exposure: Exposure,
 }
 
-/// Names the elements of a walk by a type, or none of them without one.
+/// Names the elements of a walk by a type. Without a type, none has a name.
 #[derive(Drop)]
 pub(crate) struct Fields<'a> {
     namer: Option<Namer<'a>>,
     secrets: Secrets,
-    /// The path made of names to the element that was visited last.
+    /// The path of names to the element visited last.
     path: NamePath,
 }
 
 impl<'a> Fields<'a> {
-    /// Before a walk through an input.
+    /// The state before a walk through an input.
     pub(crate) fn new(input: &'a [u8], schema: Option<Schema<'a>>) -> Fields<'a>
         ensures { HasNamedBy schema.entry input.now [] result }
     {
@@ -45,7 +45,7 @@ impl<'a> Fields<'a> {
         }
     }
 
-    /// Goes on to the element that is visited next, and returns what the type says of it.
+    /// Moves on to the next visited element, and returns what the type tells about it.
     pub(crate) fn field_of(&mut self, element: &Element<'_>) -> Field
         ensures { (s : Option Schema) (i : List ℕ) (vs : List Visited) → HasNamedBy s i vs self.old
             → element.now.depth ≤ 100 → element.now.index ≡ index_in element.now.depth vs
@@ -68,7 +68,7 @@ impl<'a> Fields<'a> {
         }
     }
 
-    /// The path made of names to the element that was visited last. None without a type.
+    /// The path of names to the element visited last. None without a type.
     pub(crate) fn path(&self, alloc: Global) -> Result<Option<String>, AllocError>
         ensures { (s : Option Schema) (i : List ℕ) (vs : List Visited) → HasNamedBy s i vs self.now
             → IfOk result (λ path. IsNamePathOf s i vs (option_map string_bytes path)) }
@@ -79,7 +79,7 @@ impl<'a> Fields<'a> {
         }
     }
 
-    /// Whether the path made of names to the element that was visited last is this text.
+    /// Whether this text is the path of names to the element visited last.
     pub(crate) fn has_path(&self, alloc: Global, text: &str) -> Result<bool, AllocError>
         ensures { (s : Option Schema) (i : List ℕ) (vs : List Visited) → HasNamedBy s i vs self.now
             → IfOk result (λ has. IsTrue has ↔ HasNamePath s i vs text.now) }
@@ -91,7 +91,7 @@ impl<'a> Fields<'a> {
     }
 }
 
-/// A namer of the elements of an input by a type, if there is one.
+/// A namer for the elements of an input, if there is a type.
 fn namer_of<'a>(input: &'a [u8], schema: Option<Schema<'a>>) -> Option<Namer<'a>>
     ensures { HasNamedSo schema.entry result input.now [] }
 {
@@ -101,7 +101,7 @@ fn namer_of<'a>(input: &'a [u8], schema: Option<Schema<'a>>) -> Option<Namer<'a>
     }
 }
 
-/// Goes on to the path to the element that is visited next, which has this name.
+/// Moves on to the next visited element, which has this name.
 fn enter(path: &mut NamePath, element: &Element<'_>, name: Option<Name>)
     ensures { element.now.depth ≤ 100 → path.new.steps.items ≡ take element.now.depth path.old.steps.items
         ++ name_step name element.now.index (visited_of element.now) ∷ [] }
@@ -111,7 +111,7 @@ fn enter(path: &mut NamePath, element: &Element<'_>, name: Option<Name>)
     }
 }
 
-/// The text of a path made of names.
+/// The text of a path of names.
 fn text_of_path(alloc: Global, path: &NamePath) -> Result<String, AllocError>
     ensures { IfOk result (λ text. string_bytes text ≡ name_path_text path.now.steps.items) }
 {
@@ -125,7 +125,7 @@ fn is_same(text: &str, other: &str) -> bool
     text == other
 }
 
-/// The text of a name, or nothing if there is none.
+/// The text of a name. Empty if there is none.
 fn text_of(name: Option<Name>) -> &'static str
     ensures { result.now ≡ label_text (label_of name) }
 {

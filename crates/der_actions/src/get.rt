@@ -1,9 +1,9 @@
-//! The octets of an element at a place.
+//! The octets of an element.
 ghost use Rattle.std.specs.Prelude.{◌≡◌, IfOk, IsTrue, List, false, ℕ};
 ghost use Rattle.der_actions.specs.Namings.{IsAsAsked};
 ghost use Rattle.der_actions.specs.Outputs.{RefusesPart, WritesPart};
 ghost use Rattle.der_actions.specs.Parts.{AreOctetsOf, AreWrittenOf};
-ghost use Rattle.der_walk.specs.Walked.{visited_of};
+ghost use Rattle.der_elements.specs.Walked.{visited_of};
 
 use crate::fields::Fields;
 use crate::naming::{is_as_asked, schema_of};
@@ -13,13 +13,14 @@ use crate::part::{octets_of, part_of};
 use crate::place::is_asked;
 use crate::report::{report, report_first, report_missing, report_type};
 use crate::trail::Trail;
-use der_walk::{Element, Walk};
+use der_elements::{Element, Walk};
 use std::alloc::Global;
 use std::io;
 use std::io::Write;
 
-/// Writes the octets of the first element at the place, or reports on `err` that there is none, or that the input isn't
-/// of the type that is asked for.
+/// Writes the octets of the first element at the place. Returns whether they were written. If not, reports why on
+/// `err`: there is no such element, an error comes before it, it is incomplete, or the input doesn't have the type of
+/// the options.
 pub fn write_part<W: Write, X: Write>(
     alloc: Global,
     options: &Options<'_>,
@@ -79,7 +80,7 @@ fn write_first<W: Write, X: Write>(
     }
 }
 
-/// Writes the octets of an element, or reports why there are none.
+/// Writes the octets of an element, or reports the error that makes it incomplete.
 fn write_octets<W: Write, X: Write>(
     options: &Options<'_>,
     origin: Origin<'_>,

@@ -1,4 +1,4 @@
-//! The label of a block as it is printed.
+//! The label of a block, as printed.
 ghost use Rattle.std.specs.Prelude.{◌≡◌, IfOk, Some, string_bytes};
 ghost use Rattle.std.specs.Fmt.{DisplaysOnOk};
 ghost use Rattle.der_base.specs.Pretty.{hex_pair};
@@ -7,8 +7,8 @@ ghost use Rattle.der_actions.specs.Labels.{is_plain, label_text, octet_text};
 use std::alloc::{AllocError, Global};
 use std::fmt;
 
-/// The label of a block, as `CERTIFICATE`. An octet that isn't printable ASCII, and a backslash, is printed by its
-/// number, as `\x0a`.
+/// The label of a block, such as `CERTIFICATE`. A backslash, or an octet that isn't printable ASCII, is printed as an
+/// escape such as `\x0a`.
 #[derive(Clone, Copy)]
 pub struct Label<'a>(pub &'a [u8]);
 
@@ -27,7 +27,7 @@ impl fmt::Display for Label<'_> {
     }
 }
 
-/// The text of a label.
+/// The label as text, with escapes.
 pub fn shown_label(alloc: Global, label: &[u8]) -> Result<String, AllocError>
     ensures { IfOk result (λ text. string_bytes text ≡ label_text label.now) }
 {
@@ -47,13 +47,13 @@ fn write_octet<W: fmt::Write>(f: &mut fmt::Formatter<W>, octet: u8) -> fmt::Resu
 }
 
 /// Writes an octet as two hexadecimal digits.
-pub(crate) fn write_pair<W: fmt::Write>(f: &mut fmt::Formatter<W>, octet: u8) -> fmt::Result
+fn write_pair<W: fmt::Write>(f: &mut fmt::Formatter<W>, octet: u8) -> fmt::Result
     ensures { DisplaysOnOk W.Write.write_str_gives f.old result (Some (hex_pair octet)) f.new }
 {
     write!(f, "{octet:02x}")
 }
 
-/// Whether an octet is printable ASCII and no backslash.
+/// Whether an octet is printable ASCII other than a backslash.
 fn is_plain(octet: u8) -> bool
     ensures { result ≡ is_plain octet }
 {

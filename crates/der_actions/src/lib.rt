@@ -1,4 +1,4 @@
-//! What the subcommands of `der` do with the octets of an input. `show` is in der_cli.
+//! The actions of the subcommands of `der` on the octets of an input. `show` is in der_cli.
 #![tactic(auto)]
 
 pub mod canon;

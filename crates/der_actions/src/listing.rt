@@ -1,34 +1,34 @@
-//! Which elements are listed.
+//! The choice of the elements that are listed.
 ghost use Rattle.std.specs.Prelude.{◌≡◌, ◌||◌, ◌∷◌, ◌++◌, IfOk, List, MatchBool, OnOk, Option, Some, [], false, ℕ};
 ghost use Rattle.der_actions.specs.Places.{FollowsPath, around_after, is_listed, still_around};
 ghost use Rattle.der_actions.specs.Choices.{HasChosen, Listed, listed_after};
 ghost use Rattle.der_actions.specs.FieldNames.{HasNamedBy};
 ghost use Rattle.der_schema.specs.declared.schema.Schema.{Schema};
-ghost use Rattle.der_walk.specs.Visits.{Visited};
-ghost use Rattle.der_walk.specs.Walked.{index_in, visited_of};
+ghost use Rattle.der_elements.specs.Visits.{Visited};
+ghost use Rattle.der_elements.specs.Walked.{index_in, visited_of};
 
 use crate::fields::Fields;
 use crate::options::Options;
 use crate::place::{Place, is_asked};
 use crate::trail::Trail;
-use der_walk::Element;
+use der_elements::Element;
 use std::alloc::{AllocError, Global};
 
-/// Which elements of a walk are listed: those at a place, and those inside them to a depth.
+/// Chooses the elements of a walk that are listed: those at a place, and those inside them up to a depth.
 #[derive(Drop)]
 pub(crate) struct Listing<'a> {
     place: Option<Place<'a>>,
     depth: Option<usize>,
-    /// How many elements are around the outermost one at the place, while the walk is inside it.
+    /// The depth of the outermost element at the place, while the walk is inside it.
     around: Option<usize>,
     /// Whether an element was listed.
     has_some: bool,
-    /// The path to the element that was visited last, if one is asked for.
+    /// The path to the element visited last, if the place is a path.
     trail: Trail,
 }
 
 impl<'a> Listing<'a> {
-    /// Before a walk.
+    /// The state before a walk.
     pub(crate) fn new(alloc: Global, options: &Options<'a>) -> Listing<'a>
         ensures { (s : Option Schema) (i : List ℕ) → HasChosen s i options.now result [] [] }
     {
@@ -41,7 +41,7 @@ impl<'a> Listing<'a> {
         }
     }
 
-    /// Whether the element is listed that is visited next. The fields are those after it is named.
+    /// Whether the next visited element is listed. `fields` has already moved on to it.
     pub(crate) fn takes(
         &mut self,
         alloc: Global,
@@ -63,7 +63,7 @@ impl<'a> Listing<'a> {
         Ok(taken)
     }
 
-    /// Goes on to the path to the element that is visited next, if one is asked for.
+    /// Moves on to the next visited element, if a path is needed.
     fn follow(&mut self, element: &Element<'_>) -> Result<(), AllocError>
         ensures follows { (vs : List Visited) → FollowsPath self.old.place self.old.trail vs
             → element.now.index ≡ index_in element.now.depth vs
@@ -85,7 +85,7 @@ impl<'a> Listing<'a> {
     }
 }
 
-/// Goes on to the path to the element that is visited next, if the place is one by its path.
+/// Moves on to the next visited element, if the place is a path.
 fn follow_to(trail: &mut Trail, place: Place<'_>, element: &Element<'_>) -> Result<(), AllocError>
     ensures { (vs : List Visited) → FollowsPath (Some place.entry) trail.old vs
         → element.now.index ≡ index_in element.now.depth vs
@@ -97,7 +97,7 @@ fn follow_to(trail: &mut Trail, place: Place<'_>, element: &Element<'_>) -> Resu
     }
 }
 
-/// How many elements are around the outermost one at the place, while the walk is inside it.
+/// The depth of the outermost element at the place, while the walk is inside it.
 fn around_after(around: Option<usize>, asked: bool, depth: usize) -> Option<usize>
     ensures { result ≡ around_after around asked depth }
 {
@@ -108,7 +108,7 @@ fn around_after(around: Option<usize>, asked: bool, depth: usize) -> Option<usiz
     }
 }
 
-/// How many elements are around the one that the walk is still inside, before an element with this depth.
+/// The depth of the element that the walk is still inside, before an element at this depth.
 fn still_around(around: Option<usize>, depth: usize) -> Option<usize>
     ensures { result ≡ still_around around depth }
 {
@@ -118,7 +118,7 @@ fn still_around(around: Option<usize>, depth: usize) -> Option<usize>
     }
 }
 
-/// Whether an element with so many around it is listed.
+/// Whether an element at this depth is listed.
 fn is_listed(around: Option<usize>, most: Option<usize>, depth: usize) -> bool
     ensures { result ≡ is_listed around most depth }
 {
@@ -129,7 +129,7 @@ fn is_listed(around: Option<usize>, most: Option<usize>, depth: usize) -> bool
     }
 }
 
-/// Whether one of two is true.
+/// Whether at least one of two is true.
 fn either(first: bool, second: bool) -> bool
     ensures { result ≡ (first || second) }
 {

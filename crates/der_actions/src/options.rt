@@ -1,72 +1,72 @@
-//! What is to be done.
+//! The options of an action.
 use crate::place::Place;
+use der_elements::Rules;
 use der_input::Form;
 use der_known::KnownTypes;
 use der_print::Style;
 use der_schema::Schema;
-use der_walk::Rules;
 use oid_names::OwnNames;
 
-/// What is done with the elements of an input.
+/// What to do with an input.
 #[derive(Clone, Copy, Debug, PartialEq)]
 pub enum Action {
     /// Prints a line for each element.
     Tree,
-    /// Prints nothing but why an input is refused.
+    /// Prints nothing, except why an input isn't valid.
     Check,
     /// Prints a line of JSON for each element.
     Json,
-    /// Writes the elements as DER writes them.
+    /// Writes the DER encoding.
     Canon,
     /// Writes the octets of an element.
     Get,
-    /// Prints what the octets are, in words.
+    /// Prints a summary.
     Show,
 }
 
-/// By which type the elements of an input are named.
+/// The type that names the elements of an input.
 #[derive(Clone, Copy)]
 pub enum Naming<'a> {
-    /// By none.
+    /// No type.
     Unnamed,
-    /// By the first of these types that the input is of, if it is of one.
+    /// The first known type that the input has, if it has one.
     ByFirst(&'a KnownTypes),
-    /// By this type. An input that isn't of it is refused.
+    /// This type. An input that doesn't have it is an error.
     By(Schema<'a>),
 }
 
-/// What is to be done with each input.
+/// The options for all inputs.
 #[derive(Clone, Copy)]
 pub struct Options<'a> {
     pub action: Action,
     /// The rules of the elements.
     pub rules: Rules,
-    /// Whether the elements inside strings are visited too.
+    /// Whether the elements inside strings are visited.
     pub enters_strings: bool,
-    /// How the inputs are written. None if each is looked at.
+    /// The form of the inputs. None if it is detected.
     pub form: Option<Form>,
     pub style: Style,
-    /// Names of identifiers in a table of one's own, which precede the built-in ones.
+    /// The user's names of object identifiers. They precede the built-in names.
     pub own_names: Option<&'a OwnNames<'a>>,
-    /// By which type elements are named, and of which an input has to be.
+    /// The type that names elements. It may be one that an input has to have.
     pub naming: Naming<'a>,
-    /// Where the element is that is listed or written. None for the outermost elements.
+    /// The place of the element to list or write. None for the outermost elements.
     pub place: Option<Place<'a>>,
-    /// How many elements may be around a listed one, besides those around the place. None for any number.
+    /// The most elements that may be around a listed one, below the place. None for any number.
     pub depth: Option<usize>,
-    /// Whether words are written as an object of JSON.
+    /// Whether the summary is written as a JSON object.
     pub is_json: bool,
-    /// Whether an object of JSON has the octets of its element.
+    /// Whether the JSON object of an element has its octets.
     pub has_octets: bool,
-    /// Whether the content of an element is written, without its header.
+    /// Whether only the content of an element is written, without its header.
     pub is_content: bool,
-    /// Whether nothing is printed of an input that a check refuses.
+    /// Whether a check prints nothing about an input that it rejects.
     pub is_quiet: bool,
-    /// Whether an input that breaks a rule of RFC 5280 is refused, after it is shown.
+    /// Whether breaking a rule of RFC 5280 is an error, after the input is shown.
     pub is_strict: bool,
-    /// The present, in seconds since 1970-01-01 00:00:00 UTC. With none, nothing is said of how long something is
-    /// valid.
+    /// The current time, in seconds since 1970-01-01 00:00:00 UTC. Without it, a summary doesn't tell for how long
+    /// something is valid.
     pub present: Option<u64>,
-    /// Whether there are several files. The tree of each begins with its name, and JSON has it.
+    /// Whether there are several files. If so, each tree begins with the file name, and JSON objects contain it.
     pub has_several_files: bool,
 }

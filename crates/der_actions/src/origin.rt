@@ -1,8 +1,8 @@
-//! Where octets are from.
+//! The origin of octets.
 use crate::name::Name;
 use std::fmt;
 
-/// Where octets are from: a file, or a block of PEM in it.
+/// The origin of octets: a file, or a PEM block in it.
 #[derive(Clone, Copy)]
 pub struct Origin<'a> {
     /// The name of the file.
@@ -11,14 +11,14 @@ pub struct Origin<'a> {
     pub block: Option<BlockName<'a>>,
 }
 
-/// A block of PEM (RFC 7468).
+/// A PEM block (RFC 7468).
 #[derive(Clone, Copy)]
 pub struct BlockName<'a> {
-    /// Its number among the blocks of the file, from 1.
+    /// The number of the block in the file, from 1.
     pub number: usize,
-    /// Its label, as `CERTIFICATE`.
+    /// The label, such as `CERTIFICATE`.
     pub label: &'a [u8],
-    /// The label as it is printed.
+    /// The label as printed.
     pub shown: &'a str,
 }
 

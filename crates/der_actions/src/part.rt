@@ -1,18 +1,18 @@
 //! The octets of an element.
 ghost use Rattle.std.specs.Prelude.{◌≡◌, ◌+◌, ◌++◌, ◌-◌, ◌<◌, List, MatchOption, drop, length, take, ℕ};
 ghost use Rattle.der_base.specs.declared.rules.Rules.{Rules};
-ghost use Rattle.der_check.specs.Elements.{IsElement};
+ghost use Rattle.der_elements.specs.Check.Elements.{IsElement};
 ghost use Rattle.der_actions.specs.Parts.{AreOctetsOf, part_of};
-ghost use Rattle.der_walk.specs.Walked.{visited_of};
+ghost use Rattle.der_elements.specs.Walked.{visited_of};
 
-use der_check::check_element;
-use der_walk::{Element, MAX_DEPTH, Rules};
+use der_elements::check::check_element;
+use der_elements::{Element, MAX_DEPTH, Rules};
 
-/// How many octets an end marker has (X.690 8.1.5).
+/// The number of end-of-contents octets (X.690 8.1.5).
 const END_MARKER: usize = 2;
 
-/// The octets of an element: as many as its header says, or of an indefinite length up to the end of its end marker.
-/// None if the input is cut, or if an element of an indefinite length isn't one of BER.
+/// The octets of an element: as many as its header says. With an indefinite length, they end with the end-of-contents
+/// octets. None if the input is truncated, or if an element with an indefinite length isn't valid BER.
 pub(crate) fn octets_of<'a>(input: &'a [u8], element: &Element<'_>) -> Option<&'a [u8]>
     ensures { MatchOption result ((w : List ℕ) → AreOctetsOf input.now (visited_of element.now) w → ⊥)
         (λ w. AreOctetsOf input.now (visited_of element.now) w.now) }
@@ -35,7 +35,7 @@ fn octets_from(input: &[u8], offset: usize) -> &[u8]
     }
 }
 
-/// The first octets, as many as those of a header and a content.
+/// The octets of a header and of a content at the start. None if there are fewer.
 fn first_octets(here: &[u8], header: usize, content: usize) -> Option<&[u8]>
     ensures { MatchOption result (length here.now < header + content)
         (λ w. (rest : List ℕ) × (here.now ≡ w.now ++ rest) × (length w.now ≡ header + content)) }
@@ -50,7 +50,7 @@ fn first_octets(here: &[u8], header: usize, content: usize) -> Option<&[u8]>
     Some(octets)
 }
 
-/// The element of BER at the start.
+/// The octets of the BER element at the start. None if there is none.
 fn first_element(here: &[u8]) -> Option<&[u8]>
     ensures { MatchOption result ((w rest : List ℕ) → here.now ≡ w ++ rest → IsElement Rules.Ber 101 w → ⊥)
         (λ w. (rest : List ℕ) × (here.now ≡ w.now ++ rest) × IsElement Rules.Ber 101 w.now) }
@@ -62,7 +62,7 @@ fn first_element(here: &[u8]) -> Option<&[u8]>
     Some(octets)
 }
 
-/// The octets of an element, or those of its content alone.
+/// The octets of an element, or of its content only.
 pub(crate) fn part_of<'a>(element: &Element<'_>, octets: &'a [u8], is_content: bool) -> &'a [u8]
     ensures { result.now ≡ part_of is_content (visited_of element.now) octets.now }
 {
@@ -76,7 +76,7 @@ pub(crate) fn part_of<'a>(element: &Element<'_>, octets: &'a [u8], is_content: b
     }
 }
 
-/// The octets but the last ones.
+/// The octets without the last `number` ones.
 fn without_last(octets: &[u8], number: usize) -> &[u8]
     ensures { result.now ≡ take (length octets.now - number) octets.now }
 {

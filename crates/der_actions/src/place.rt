@@ -1,24 +1,24 @@
-//! Where an element is.
+//! The place of an element.
 ghost use Rattle.std.specs.Prelude.{◌≡◌, ◌↔◌, ◌∷◌, ◌++◌, [], IfOk, IsTrue, List, Option, Some, ℕ};
 ghost use Rattle.der_actions.specs.FieldNames.{HasNamedBy};
 ghost use Rattle.der_actions.specs.Paths.{path_of};
 ghost use Rattle.der_actions.specs.Places.{FollowsPath, IsAsked, IsPathTo};
 ghost use Rattle.der_schema.specs.declared.schema.Schema.{Schema};
-ghost use Rattle.der_walk.specs.Visits.{Visited};
-ghost use Rattle.der_walk.specs.Walked.{visited_of};
+ghost use Rattle.der_elements.specs.Visits.{Visited};
+ghost use Rattle.der_elements.specs.Walked.{visited_of};
 
 use crate::fields::Fields;
 use crate::trail::Trail;
-use der_walk::Element;
+use der_elements::Element;
 use std::alloc::{AllocError, Global};
 use std::fmt;
 
-/// Where an element is in an input.
+/// The place of an element in an input.
 #[derive(Clone, Copy, Debug, PartialEq)]
 pub enum Place<'a> {
-    /// The path to it, as errors and JSON print it, or made of the names of fields.
+    /// A path to the element: as errors and JSON print it, or of the names of fields.
     Path(&'a str),
-    /// Where it begins, in octets from the start of the input.
+    /// The offset of the element in the input.
     Offset(usize),
 }
 
@@ -31,7 +31,7 @@ impl fmt::Display for Place<'_> {
     }
 }
 
-/// The place that an argument names: `@` and an offset, or a path.
+/// The place that an argument gives: `@` and an offset, or a path.
 pub fn place_named(word: &str) -> Place<'_> {
     match word
         .strip_prefix('@')
@@ -42,7 +42,7 @@ pub fn place_named(word: &str) -> Place<'_> {
     }
 }
 
-/// Whether an element that was visited last is at a place. If none is asked for, the outermost elements are.
+/// Whether the element visited last is at a place. Without a place, the outermost elements are.
 #[inline(always)]
 pub(crate) fn is_asked(
     alloc: Global,
@@ -61,7 +61,7 @@ pub(crate) fn is_asked(
     }
 }
 
-/// Whether an element that was visited last is at this place.
+/// Whether the element visited last is at this place.
 fn is_at(
     alloc: Global,
     place: Place<'_>,
@@ -79,7 +79,7 @@ fn is_at(
     }
 }
 
-/// Whether a text is the path to the element that was visited last, as errors print it, or made of names.
+/// Whether a text is the path to the element visited last, as errors print it or of the names of fields.
 fn is_path(
     alloc: Global,
     path: &str,

@@ -1,10 +1,10 @@
-//! The elements of an input as lines.
+//! The elements of an input, as lines.
 ghost use Rattle.std.specs.Prelude.{◌≡◌, IfOk, IsTrue, MatchBool, OnOk, false};
 ghost use Rattle.der_actions.specs.Outputs.{AddsExposedJson, AddsLineOf, RefusesLines, WritesLines};
-ghost use Rattle.der_fields.specs.Lines.{AddsExposed};
+ghost use Rattle.text_json.specs.Fields.Lines.{AddsExposed};
 ghost use Rattle.der_print.specs.Names.{table_of};
 ghost use Rattle.der_print.specs.Texts.{content_of};
-ghost use Rattle.der_walk.specs.Walked.{visited_of};
+ghost use Rattle.der_elements.specs.Walked.{visited_of};
 
 use crate::fields::{Field, Fields};
 use crate::listing::Listing;
@@ -13,15 +13,15 @@ use crate::options::Options;
 use crate::origin::Origin;
 use crate::report::{report_end, report_refusal};
 use crate::source::{Names, source_of};
-use der_fields::{Exposure, write_exposed};
-use der_json::{Paths, write_json, write_secret};
+use der_elements::{Element, Walk};
 use der_print::Room;
-use der_walk::{Element, Walk};
 use std::alloc::Global;
 use std::io;
 use std::io::Write;
+use text_json::fields::{Exposure, write_exposed};
+use text_json::{Paths, write_json, write_secret};
 
-/// What the line of an element is.
+/// The kind of lines.
 #[derive(Clone, Copy, Debug, PartialEq)]
 pub enum Lines {
     /// A line of a tree.
@@ -33,13 +33,13 @@ pub enum Lines {
 /// An element that is visited.
 #[derive(Clone, Copy)]
 struct Visit {
-    /// Whether it is listed.
+    /// Whether the element is listed.
     is_listed: bool,
-    /// What the type says of it, if there is one.
+    /// What the type tells about the element, if there is a type.
     field: Field,
 }
 
-/// Octets whose elements are printed.
+/// The octets whose elements are printed.
 #[derive(Clone, Copy)]
 struct Printed<'a> {
     lines: Lines,
@@ -47,18 +47,18 @@ struct Printed<'a> {
     octets: &'a [u8],
 }
 
-/// What is kept from line to line.
+/// The state that is kept from line to line.
 #[derive(Drop)]
 struct Kept {
-    /// The memory of a line of a tree.
+    /// The memory for a line of a tree.
     room: Room,
-    /// The paths in lines of JSON.
+    /// The paths for lines of JSON.
     paths: Paths,
 }
 
-/// Writes a line for each element of octets that is listed, with the name of its field, and reports on `err` why they
-/// are refused. Returns whether they were elements to their end, one is listed, and they are of the type that is asked
-/// for, if one is.
+/// Writes a line for each listed element, with the name of its field, and reports on `err` why the octets aren't valid.
+/// Returns whether all of these hold: the octets are valid to their end, at least one element is listed, and the octets
+/// have the type of the options, if there is one.
 pub fn print_lines<W: Write, X: Write>(
     alloc: Global,
     options: &Options<'_>,
@@ -99,7 +99,7 @@ pub fn print_lines<W: Write, X: Write>(
 }
 
 impl Kept {
-    /// Before the first element.
+    /// The state before the first element.
     fn new(alloc: Global) -> Kept {
         Kept {
             room: Room::new(alloc),
@@ -108,7 +108,7 @@ impl Kept {
     }
 }
 
-/// Goes on to the next element, and writes its line if it is listed.
+/// Moves on to the next element, and writes its line if it is listed.
 fn pass<W: Write>(
     alloc: Global,
     options: &Options<'_>,
@@ -130,7 +130,7 @@ fn pass<W: Write>(
     }
 }
 
-/// Writes the line of an element in a tree if it is listed.
+/// Writes the line of an element in a tree, if it is listed.
 fn pass_in_tree<W: Write>(
     options: &Options<'_>,
     visit: Visit,
@@ -151,7 +151,7 @@ fn pass_in_tree<W: Write>(
     write_exposed(out, room, element, field.name, field.exposure, style, own)
 }
 
-/// Goes on to the path of an element, and writes its object of JSON if it is listed.
+/// Moves on to the path of an element, and writes its JSON object if it is listed.
 fn pass_in_json<W: Write>(
     alloc: Global,
     options: &Options<'_>,
@@ -181,7 +181,7 @@ fn pass_in_json<W: Write>(
     Ok(())
 }
 
-/// Writes an element as an object of JSON, as far as it may be printed.
+/// Writes the JSON object of an element, as far as it may be printed.
 fn write_object<W: Write>(
     alloc: Global,
     options: &Options<'_>,

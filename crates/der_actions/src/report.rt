@@ -1,4 +1,4 @@
-//! What is said of an input that is refused.
+//! Reports of errors.
 ghost use Rattle.std.specs.Prelude.{◌≡◌, ◌≢◌, ◌↔◌, ◌⊎◌, IfOk, IsTrue, OnOk, false, true};
 ghost use Rattle.std.specs.Io.KnownBytes.{Keeps};
 ghost use Rattle.der_actions.specs.Namings.{IsAsAsked};
@@ -11,24 +11,24 @@ use crate::naming::is_as_asked;
 use crate::options::{Action, Naming, Options};
 use crate::origin::Origin;
 use crate::place::Place;
-use der_check::are_elements;
-use der_fields::{Named, fit_of};
+use der_elements::check::are_elements;
+use der_elements::{MAX_DEPTH, Path, Reason, Refusal, Rules, Walk};
 use der_input::FormError;
 use der_known::KnownTypes;
 use der_schema::Schema;
-use der_walk::{MAX_DEPTH, Path, Reason, Refusal, Rules, Walk};
 use std::io;
 use std::io::Write;
+use text_json::fields::{Named, fit_of};
 
-/// Whether octets are elements by these rules, one at least, and nothing else.
+/// Whether octets are one or more valid elements by these rules, and nothing else.
 pub(crate) fn are_some_elements(octets: &[u8], rules: Rules) -> bool
     ensures { IsTrue result ↔ AreSomeElements rules octets.now }
 {
     !octets.is_empty() && are_elements(octets, rules, MAX_DEPTH + 1)
 }
 
-/// Reports the first element that is refused, or that the input is empty, or else that it isn't of the type that it has
-/// to be of.
+/// Reports the first error. This is a rejected element, an empty input, or an input that doesn't have the type of the
+/// options.
 pub(crate) fn report_check<W: Write>(
     options: &Options<'_>,
     origin: Origin<'_>,
@@ -41,8 +41,7 @@ pub(crate) fn report_check<W: Write>(
     report_first(options, origin, octets, out)
 }
 
-/// Reports the first element that is refused, or that the input is empty. An element that breaks a rule inside a string
-/// is neither.
+/// Reports the first rejected element, or that the input is empty. An error inside a string doesn't count.
 pub(crate) fn report_first<W: Write>(
     options: &Options<'_>,
     origin: Origin<'_>,
@@ -55,7 +54,8 @@ pub(crate) fn report_first<W: Write>(
     writeln!(out, "der: {origin}: an element has no end")
 }
 
-/// Reports the first element that these rules refuse, or that the input is empty. Returns whether one of these is so.
+/// Reports the first element that isn't valid by these rules, or that the input is empty. Returns whether there was
+/// something to report.
 pub fn report_fault<W: Write>(
     rules: Rules,
     origin: Origin<'_>,
@@ -71,7 +71,7 @@ pub fn report_fault<W: Write>(
     Ok(true)
 }
 
-/// Reports an input or a block whose octets aren't found.
+/// Reports an input or a block that can't be decoded.
 pub fn refuse_form<W: Write, X: Write>(
     options: &Options<'_>,
     origin: Origin<'_>,
@@ -96,8 +96,8 @@ pub fn refuse_form<W: Write, X: Write>(
     Ok(false)
 }
 
-/// Reports at the end of a walk that no element was listed, or that the input isn't of the type that it has to be of.
-/// Returns whether one was, and it is.
+/// Reports at the end of a walk that no element was listed, or that the input doesn't have the type of the options.
+/// Returns whether there was nothing to report.
 pub(crate) fn report_end<W: Write, X: Write>(
     options: &Options<'_>,
     origin: Origin<'_>,
@@ -125,7 +125,7 @@ pub(crate) fn report_end<W: Write, X: Write>(
     Ok(false)
 }
 
-/// Reports where an input isn't of the type that it has to be of.
+/// Reports where the input doesn't match the type of the options.
 pub(crate) fn report_type<X: Write>(
     options: &Options<'_>,
     origin: Origin<'_>,
@@ -143,7 +143,7 @@ pub(crate) fn report_type<X: Write>(
     }
 }
 
-/// Reports how an input doesn't fit a type.
+/// Reports how an input doesn't match a type.
 fn report_fit<X: Write>(
     origin: Origin<'_>,
     schema: Schema<'_>,
@@ -167,7 +167,7 @@ fn report_fit<X: Write>(
     }
 }
 
-/// Reports that no known type has this name, and the names of those that are known.
+/// Reports that no known type has this name, and lists the names of the known types.
 pub fn report_unknown_type<X: Write>(
     name: Option<&str>,
     types: &KnownTypes,
@@ -184,7 +184,7 @@ pub fn report_unknown_type<X: Write>(
     writeln!(err, "")
 }
 
-/// Reports where and why a walk refuses an input, after what is written of it.
+/// Reports where and why a walk stopped with an error, after `out` is flushed.
 pub(crate) fn report_refusal<W: Write, X: Write>(
     origin: Origin<'_>,
     walk: &Walk<'_>,
@@ -200,7 +200,7 @@ pub(crate) fn report_refusal<W: Write, X: Write>(
     Ok(false)
 }
 
-/// Reports that no element is at a place, or that the input is empty.
+/// Reports that there is no element at a place, or that the input is empty.
 pub(crate) fn report_missing<X: Write>(
     place: Option<Place<'_>>,
     origin: Origin<'_>,
@@ -212,7 +212,7 @@ pub(crate) fn report_missing<X: Write>(
     }
 }
 
-/// Reports where and why a walk refuses an input.
+/// Reports where and why a walk stopped with an error.
 pub(crate) fn report<X: Write>(
     origin: Origin<'_>,
     walk: &Walk<'_>,
@@ -228,7 +228,7 @@ pub(crate) fn report<X: Write>(
     )
 }
 
-/// Reports where and why an input is refused.
+/// Reports where and why an input isn't valid.
 pub(crate) fn report_place<X: Write>(
     origin: Origin<'_>,
     offset: usize,

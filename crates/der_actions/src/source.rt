@@ -1,27 +1,27 @@
-//! Where an element is from, as its object of JSON says it.
+//! The source of an element, for its JSON object.
 ghost use Rattle.std.specs.Prelude.{◌≡◌, Some, None, if◌then◌else◌, option_map, string_bytes};
 ghost use Rattle.der_actions.specs.Namings.{field_member};
 ghost use Rattle.der_actions.specs.Sources.{AreAskedOctets};
-ghost use Rattle.der_walk.specs.Walked.{visited_of};
+ghost use Rattle.der_elements.specs.Walked.{visited_of};
 
 use crate::options::Options;
 use crate::origin::Origin;
 use crate::part::octets_of;
-use der_json::Source;
-use der_walk::Element;
+use der_elements::Element;
+use text_json::Source;
 
-/// What an element is called.
+/// The names of an element.
 #[derive(Clone, Copy)]
 pub(crate) struct Names<'a> {
-    /// The path to it, as errors print it.
+    /// The path to the element, as errors print it.
     pub path: &'a str,
-    /// The name of the field that it is. It is empty if no type has one for it.
+    /// The name of the field. Empty if no type has one.
     pub field: &'a str,
-    /// The path to it made of names. None if the input is named by no type.
+    /// The path of names. None if no type names the input.
     pub field_path: &'a Option<String>,
 }
 
-/// Where an element is from, and its octets if they are asked for.
+/// The source of an element, with its octets if the options ask for them.
 pub(crate) fn source_of<'a>(
     options: &Options<'_>,
     origin: Origin<'a>,
@@ -57,7 +57,7 @@ pub(crate) fn source_of<'a>(
     }
 }
 
-/// The name of a field as a member of JSON: none if it is empty.
+/// The name of a field as a JSON member. None if it is empty.
 fn field_member(field: &str) -> Option<&str>
     ensures { option_map (λ x. x.now) result ≡ field_member field.now }
 {
@@ -67,7 +67,7 @@ fn field_member(field: &str) -> Option<&str>
     Some(field)
 }
 
-/// The text that is there, if one is.
+/// The text, if there is one.
 fn text_in<'a>(text: &'a Option<String>) -> Option<&'a str>
     ensures { option_map (λ x. x.now) result ≡ option_map string_bytes text.now }
 {
@@ -88,7 +88,7 @@ fn block_of<'a>(origin: Origin<'a>) -> (Option<usize>, Option<&'a str>)
     }
 }
 
-/// All octets of an element, if they are asked for and are there.
+/// All octets of an element, if the options ask for them and the input has them.
 fn asked_octets<'a>(
     options: &Options<'_>,
     octets: &'a [u8],

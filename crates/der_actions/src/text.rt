@@ -1,4 +1,4 @@
-//! Texts of elements that one can write, and their octets (docs/TEXT.md).
+//! A text of elements that can be edited, and back to octets (docs/TEXT.md).
 ghost use Rattle.std.specs.Prelude.{◌≡◌, IfOk, IsErr, IsTrue, List, Ok, OnOk, false, ℕ};
 ghost use Rattle.std.specs.Io.KnownBytes.{Appends};
 ghost use Rattle.der_text.specs.Texts.{octets_of_text};
@@ -9,7 +9,7 @@ use std::alloc::Global;
 use std::io;
 use std::io::{ErrorKind, Write};
 
-/// Writes a text of octets.
+/// Writes the text of octets.
 pub fn write_text<W: Write>(alloc: Global, octets: &[u8], out: &mut W) -> io::Result<()>
     ensures { OnOk result ((text : List ℕ) × (octets_of_text text ≡ Ok octets.now)
         × Appends (W.contents out.old) (W.contents out.new) text) }

@@ -2,21 +2,21 @@
 ghost use Rattle.std.specs.Prelude.{◌≡◌, ◌↔◌, ◌∷◌, ◌++◌, [], IfOk, IsTrue, OnOk, Some, take};
 ghost use Rattle.std.specs.Fmt.{DisplaysOnOk};
 ghost use Rattle.der_actions.specs.Paths.{step_at};
-ghost use Rattle.der_walk.specs.Paths.{further_text, path_text};
-ghost use Rattle.der_walk.specs.Walked.{visited_of};
+ghost use Rattle.der_elements.specs.Paths.{further_text, path_text};
+ghost use Rattle.der_elements.specs.Walked.{visited_of};
 
-use der_walk::{Element, Step};
+use der_elements::{Element, Step};
 use std::alloc::{AllocError, Global};
 use std::fmt;
 
-/// The path to the element that a walk visited last: a step for each element around it, and its own.
+/// The path to the element that a walk visited last: a step for each element around it, and one for itself.
 #[derive(Drop)]
 pub(crate) struct Trail {
     steps: Vec<Step>,
 }
 
 impl Trail {
-    /// The path before a walk.
+    /// The path before a walk begins.
     pub(crate) fn new(alloc: Global) -> Trail
         ensures { result.steps.items ≡ [] }
     {
@@ -25,7 +25,7 @@ impl Trail {
         }
     }
 
-    /// Goes on to the element that is visited next.
+    /// Moves on to the next visited element.
     pub(crate) fn enter(&mut self, element: &Element<'_>) -> Result<(), AllocError>
         ensures { OnOk result (self.new.steps.items ≡ take element.now.depth self.old.steps.items
             ++ step_at element.now.index (visited_of element.now) ∷ []) }
@@ -35,7 +35,7 @@ impl Trail {
         Ok(())
     }
 
-    /// Whether its text is this one.
+    /// Whether this is the text of the path.
     pub(crate) fn has_path(&self, alloc: Global, text: &str) -> Result<bool, AllocError>
         ensures { IfOk result (λ has. IsTrue has ↔ (path_text self.now.steps.items ≡ text.now)) }
     {
@@ -46,7 +46,7 @@ impl Trail {
 
 impl fmt::Display for Trail {
     ghost use Rattle.std.specs.Prelude.{Some};
-    ghost use Rattle.der_walk.specs.Paths.{path_text};
+    ghost use Rattle.der_elements.specs.Paths.{path_text};
 
     ghost output = { λ x. Some (path_text x.steps.items) };
 
@@ -59,7 +59,7 @@ impl fmt::Display for Trail {
     }
 }
 
-/// Writes steps, each after a point.
+/// Writes steps, each after a dot.
 fn write_further<W: fmt::Write>(f: &mut fmt::Formatter<W>, steps: &[Step]) -> fmt::Result
     ensures { DisplaysOnOk W.Write.write_str_gives f.old result (Some (further_text steps.now)) f.new }
 {

@@ -27,16 +27,6 @@ pub record BeginsWithHeader (i : List ℕ) (c : Class) (p : Bool) (t : ℕ) (l :
   pub number : t < 2 ^ 32
   pub length : BeginsWithLength following p l rest
 
--- i begins with a header of the number t, and what follows it is so, by the length and the constructed bit
-abbrev pub BehindHeader : ℕ → List ℕ → (Length → Bool → List ℕ → Type 0) → Type 0
-BehindHeader t i P = (c : Class) × (p : Bool) × (l : Length) × (behind : List ℕ)
-    × BeginsWithHeader i c p t l behind × P l p behind
-
--- the same by DER
-abbrev pub BehindDerHeader : ℕ → List ℕ → (Length → Bool → List ℕ → Type 0) → Type 0
-BehindDerHeader t i P = (c : Class) × (p : Bool) × (n : ℕ) × (behind : List ℕ)
-    × BeginsWithDerHeader i c p t n behind × P (Definite n) p behind
-
 -- i begins with the header h as DER writes it, and rest follows
 pub record ReadsDerHeader (i : List ℕ) (h : Header) (rest : List ℕ) : Type 0 where
   pub size : ℕ

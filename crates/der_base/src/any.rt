@@ -18,7 +18,7 @@ use crate::header::{Class, Header, Length, Tag, ber_read_element_header, der_rea
 /// An element whose content isn't read.
 #[derive(Clone, Copy, Debug, PartialEq)]
 pub struct Any<'a> {
-    /// The header in front of the content.
+    /// The header.
     pub header: Header<'a>,
     /// The content octets.
     pub bytes: &'a [u8],
@@ -33,8 +33,8 @@ impl<'a> Any<'a> {
         Any { header, bytes }
     }
 
-    /// An element of a universal type, of the length that its content octets have; constructed for
-    /// SEQUENCE and SET, with no raw tag.
+    /// An element of a universal type. Its length is that of `bytes`. SEQUENCE and SET are constructed. It has no raw
+    /// tag.
     pub fn from_tag_and_data(tag: Tag, bytes: &'a [u8]) -> Any<'a>
         ensures header { let w = bytes.entry.now in
             IsHeader result.header Class.Universal (is_list tag.0) tag.0 (Length.Definite (length w)) None }
@@ -46,7 +46,7 @@ impl<'a> Any<'a> {
         Any { header, bytes }
     }
 
-    /// The same element with another class.
+    /// This element with another class.
     pub fn with_class(self, class: Class) -> Any<'a>
         ensures header { let h = self.entry.header in
             IsHeader result.header class (is_constructed h) (number_of h) (length_of h) (raw_tag_of h) }
@@ -72,16 +72,13 @@ impl<'a> Any<'a> {
         self.header.tag()
     }
 
-    /// Reads an element by BER: its header and its content, and of the content only the framing. A
-    /// definite length gives the number of content octets. An indefinite length has as content the
-    /// elements before its end marker, the two octets `00 00` (X.690 8.1.3.6, 8.1.5). Returns what
-    /// follows the content or the end marker, and the element. An end marker at the start of the
-    /// input is an element without content.
+    /// Reads an element by BER, and returns the rest of the input with it. The content is framed, not checked. With an
+    /// indefinite length, the content is the elements before the end-of-contents octets `00 00` (X.690 8.1.3.6, 8.1.5).
+    /// If the input begins with end-of-contents octets, they are an element without content.
     ///
-    /// Errors: those of `ber_read_element_header`, also for the headers inside an indefinite length;
-    /// BerMaxDepth if indefinite lengths are nested `MAX_RECURSION` deep, after the first header in
-    /// the innermost of them is read. Incomplete with the number of octets that a header or a
-    /// definite content lacks. It doesn't allocate.
+    /// Errors: those of `ber_read_element_header`, also for the headers inside an indefinite length; BerMaxDepth if
+    /// indefinite lengths are nested `MAX_RECURSION` deep, after the first header in the innermost of them is read.
+    /// Incomplete with the number of octets that a header or a definite content lacks. It doesn't allocate.
     pub fn from_ber(i: &'a [u8]) -> IResult<&'a [u8], Any<'a>, BerError>
         ensures { AnswersAny i.now result }
     {
@@ -97,11 +94,11 @@ impl<'a> Any<'a> {
         Ok((rest, Any { header, bytes }))
     }
 
-    /// Reads an element whose header is as DER writes it, with as many content octets as the header
-    /// says. Returns the rest of the input and the element.
+    /// Reads an element with a header as DER writes it, and returns the rest of the input with it. The content isn't
+    /// checked.
     ///
-    /// Errors: those of `der_read_element_header`; Incomplete with the number of octets that the
-    /// header or the content lacks. It doesn't allocate.
+    /// Errors: those of `der_read_element_header`. Incomplete with the number of octets that the header or the content
+    /// lacks. It doesn't allocate.
     #[inline(always)]
     pub fn from_der(i: &'a [u8]) -> IResult<&'a [u8], Any<'a>, BerError>
         ensures { AnswersDerAny i.now result }
@@ -127,15 +124,14 @@ impl<'a> Any<'a> {
     }
 }
 
-/// Reads the content after a header of this length by BER. Returns what follows the element, and the
-/// content octets. A definite length has that many octets, which aren't looked into. An indefinite
-/// length has the elements before its end marker, the two octets `00 00` (X.690 8.1.3.6, 8.1.5).
-/// Indefinite lengths, this one included, may be nested less deep than the budget.
+/// Reads the content after a header with this length by BER. Returns what follows the element, and the content octets.
+/// A definite content is skipped. With an indefinite length, the content is the elements before the end-of-contents
+/// octets `00 00` (X.690 8.1.3.6, 8.1.5). Indefinite lengths, this one included, may be nested less deep than the
+/// budget.
 ///
-/// Errors, of an indefinite length alone: those of `ber_read_element_header` for the headers inside,
-/// and BerMaxDepth if the budget is used up, after the first header in the innermost length is read.
-/// Incomplete with the number of octets that a header or a definite content lacks. It doesn't
-/// allocate.
+/// Errors, for an indefinite length only: those of `ber_read_element_header` for the headers inside; BerMaxDepth if the
+/// budget is used up, after the first header in the innermost length is read. Incomplete with the number of octets that
+/// a header or a definite content lacks. It doesn't allocate.
 pub fn ber_read_content<'a>(
     i: &'a [u8],
     length: Length,

@@ -1,5 +1,4 @@
-//! Framing: where the content of an element ends, by BER (X.690 8.1.3). The octets inside a definite
-//! length aren't looked into.
+//! Framing: where the content of an element ends, by BER (X.690 8.1.3). A definite content is skipped.
 ghost use Rattle.std.specs.Prelude.{◌≡◌, ◌≤◌, ◌++◌, List, ℕ, MatchBool, MatchOption};
 ghost use Rattle.der_base.specs.declared.header.Length.{Length};
 ghost use Rattle.der_base.specs.Answer.{MatchAnswer};
@@ -9,9 +8,8 @@ ghost use Rattle.der_base.specs.Spelling.{end_marker};
 use crate::error::{BerError, Err, IResult, Needed};
 use crate::header::{Length, ber_read_element_header};
 
-/// Reads the content after a header of this length. Returns what follows the element, and the content
-/// octets without the end marker. Indefinite lengths, this one included, may be nested less deep than
-/// the budget.
+/// Reads the content after a header with this length. Returns what follows the element, and the content octets without
+/// the end-of-contents octets. Indefinite lengths, this one included, may be nested less deep than the budget.
 #[cycle(framing)]
 #[inline(always)]
 pub fn read_content(i: &[u8], stated: Length, budget: usize) -> IResult<&[u8], &[u8], BerError>
@@ -28,7 +26,7 @@ pub fn read_content(i: &[u8], stated: Length, budget: usize) -> IResult<&[u8], &
     }
 }
 
-/// Reads a content of this many octets. Returns what follows the element, and the content octets.
+/// Reads a content of this many octets. Returns what follows it, and the content octets.
 #[inline(always)]
 pub fn ber_read_definite(i: &[u8], size: usize) -> IResult<&[u8], &[u8], BerError>
     ensures { MatchAnswer result
@@ -44,8 +42,8 @@ pub fn ber_read_definite(i: &[u8], size: usize) -> IResult<&[u8], &[u8], BerErro
     Ok((rest, content))
 }
 
-/// Reads the elements before the end marker of an indefinite length. The header of each is read before
-/// the budget is looked at. The end marker needs budget too.
+/// Reads the elements before the end-of-contents octets of an indefinite length. Each header is read before the budget
+/// is checked. The end-of-contents octets need budget too.
 #[cycle(framing)]
 #[inline(never)]
 fn read_to_end_marker(i: &[u8], budget: usize) -> IResult<&[u8], &[u8], BerError>
@@ -70,7 +68,7 @@ fn read_to_end_marker(i: &[u8], budget: usize) -> IResult<&[u8], &[u8], BerError
     }
 }
 
-/// Whether the input begins with the two octets of an end marker (X.690 8.1.5).
+/// Whether the input begins with end-of-contents octets, `00 00` (X.690 8.1.5).
 #[inline]
 pub fn begins_with_end_marker(i: &[u8]) -> bool
     ensures { MatchBool result
@@ -80,7 +78,7 @@ pub fn begins_with_end_marker(i: &[u8]) -> bool
     after_end_marker(i).is_some()
 }
 
-/// What follows the end marker at the start of the input, if there is one (X.690 8.1.5).
+/// What follows the end-of-contents octets at the start of the input. None if it doesn't begin with them (X.690 8.1.5).
 #[inline]
 pub fn after_end_marker(i: &[u8]) -> Option<&[u8]>
     ensures { MatchOption result

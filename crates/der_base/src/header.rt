@@ -35,7 +35,7 @@ pub enum Class {
 }
 
 impl Class {
-    /// The name of the class, as ASN.1 writes it, and `CONTEXT-SPECIFIC`.
+    /// The keyword of the class in ASN.1. Context-specific has none, so it is `CONTEXT-SPECIFIC`.
     pub fn name(self) -> &'static str
         ensures { result.now ≡ class_name self }
     {
@@ -65,7 +65,7 @@ pub struct Tag(pub u32);
 /// The universal types (X.680 8.4, table 1).
 #[allow(non_upper_case_globals)]
 impl Tag {
-    /// The type of the element that ends an indefinite length (X.690 8.1.5).
+    /// The type of the end-of-contents octets of an indefinite length (X.690 8.1.5).
     pub const EndOfContent: Tag = Tag(0);
 
     /// BOOLEAN.
@@ -152,8 +152,7 @@ impl Tag {
     /// BMPString.
     pub const BmpString: Tag = Tag(30);
 
-    /// Whether the universal type of this number has a content of its own. The content of any other
-    /// type is kept as octets.
+    /// Whether this is a universal type whose content is read. The content of any other type is kept as octets.
     #[inline]
     pub fn is_mapped(self) -> bool
         ensures { result ≡ is_mapped self.0 }
@@ -161,7 +160,7 @@ impl Tag {
         matches!(self.0, 0..=7 | 10 | 12 | 13 | 16..=28 | 30)
     }
 
-    /// The name of the universal type of this number, if it has one.
+    /// The name of the universal type with this number, if there is one.
     pub fn name(self) -> Option<&'static str>
         ensures { option_copied result ≡ name_at type_names self.0 }
     {
@@ -222,12 +221,12 @@ impl fmt::Display for Tag {
     }
 }
 
-/// The length that a header states (X.690 8.1.3).
+/// The length in a header (X.690 8.1.3).
 #[derive(Clone, Copy, Debug, PartialEq)]
 pub enum Length {
     /// This many content octets.
     Definite(usize),
-    /// The content ends at its end marker.
+    /// The content ends at end-of-contents octets.
     Indefinite,
 }
 
@@ -258,8 +257,8 @@ impl From<usize> for Length {
     }
 }
 
-/// The header of an element: its class, whether it is constructed, its tag number and its length
-/// (X.690 8.1.1). A header that was read has its identifier octets too.
+/// The header of an element: its class, whether it is constructed, its tag number and its length (X.690 8.1.1). If it
+/// was read, it also has its identifier octets.
 #[derive(Clone, Copy, Debug)]
 pub struct Header<'a> {
     class: Class,
@@ -276,7 +275,7 @@ pub struct Header<'a> {
 impl<'a> Header<'a> {
     ghost use Rattle.der_base.specs.Header.{IsHeader, class_of, is_constructed, number_of, length_of, raw_tag_of};
 
-    /// A header with no identifier octets of its own.
+    /// A header with no raw tag.
     pub fn new(class: Class, constructed: bool, tag: Tag, length: Length) -> Header<'a>
         ensures { IsHeader result class constructed tag.0 length None }
     {
@@ -292,7 +291,7 @@ impl<'a> Header<'a> {
         }
     }
 
-    /// The same header with another length.
+    /// This header with another length.
     pub fn with_length(self, length: Length) -> Header<'a>
         ensures { let h = self.entry in
             IsHeader result (class_of h) (is_constructed h) (number_of h) length (raw_tag_of h) }
@@ -305,7 +304,7 @@ impl<'a> Header<'a> {
         }
     }
 
-    /// The same header with other identifier octets, or none.
+    /// This header with other identifier octets, or none.
     pub fn with_raw_tag(self, raw_tag: Option<&'a [u8]>) -> Header<'a>
         ensures { let h = self.entry in
             IsHeader result (class_of h) (is_constructed h) (number_of h) (length_of h) (option_copied raw_tag.entry) }
@@ -324,7 +323,7 @@ impl<'a> Header<'a> {
         }
     }
 
-    /// The same header with another class.
+    /// This header with another class.
     pub fn with_class(self, class: Class) -> Header<'a>
         ensures { let h = self.entry in
             IsHeader result class (is_constructed h) (number_of h) (length_of h) (raw_tag_of h) }
@@ -357,14 +356,14 @@ impl<'a> Header<'a> {
         }
     }
 
-    /// Whether the content is made of elements.
+    /// Whether the content is elements (8.1.2.5).
     pub fn constructed(&self) -> bool
         ensures { result ≡ is_constructed self.now }
     {
         self.constructed
     }
 
-    /// The identifier octets as they were read, if the header has them.
+    /// The identifier octets, if the header has them (X.690 8.1.2).
     pub fn raw_tag(&self) -> Option<&'a [u8]>
         ensures { option_copied result ≡ raw_tag_of self.now }
     {
@@ -403,14 +402,14 @@ impl<'a> Header<'a> {
         self.class == Class::Private
     }
 
-    /// Whether the content is a value and isn't made of elements.
+    /// Whether the content is a value rather than elements (8.1.2.5).
     pub fn is_primitive(&self) -> bool
         ensures { IsTrue result ↔ (is_constructed self.now ≡ false) }
     {
         !self.constructed
     }
 
-    /// Whether the content is made of elements.
+    /// Whether the content is elements (8.1.2.5).
     pub fn is_constructed(&self) -> bool
         ensures { IsTrue result ↔ (is_constructed self.now ≡ true) }
     {
@@ -443,7 +442,7 @@ impl<'a> Header<'a> {
         }
     }
 
-    /// Ok if the content is made of elements, else ConstructExpected.
+    /// Ok if the element is constructed, else ConstructExpected.
     pub fn assert_constructed(&self) -> Result<(), BerError>
         ensures { MatchResult result
             (λ _. is_constructed self.now ≡ true)
@@ -456,7 +455,7 @@ impl<'a> Header<'a> {
         }
     }
 
-    /// Ok if the content is a value, else ConstructUnexpected.
+    /// Ok if the element is primitive, else ConstructUnexpected.
     pub fn assert_primitive(&self) -> Result<(), BerError>
         ensures { MatchResult result
             (λ _. is_constructed self.now ≡ false)
@@ -501,13 +500,11 @@ fn parts_of(length: Length) -> (bool, usize)
     }
 }
 
-/// Reads the header at the start of an element as BER allows it: identifier octets (X.690 8.1.2) and a
-/// length in any number of octets, definite or, if constructed, indefinite (8.1.3). The header has its
-/// identifier octets as raw tag.
+/// Reads the header at the start of an element by BER: identifier octets (X.690 8.1.2) and a length in any number of
+/// octets. The length may be indefinite if the element is constructed (8.1.3). The raw tag is the identifier octets.
 ///
-/// Errors: InvalidTag, InvalidLength, and ConstructExpected for an indefinite length after a primitive
-/// identifier, each at the octet that shows it; Incomplete with the number of octets that a header
-/// lacks. It doesn't allocate.
+/// Errors: InvalidTag, InvalidLength, and ConstructExpected for an indefinite length of a primitive element, each as
+/// soon as an octet shows it. Incomplete with the number of octets that the header lacks. It doesn't allocate.
 #[inline(always)]
 pub fn ber_read_element_header(i: &[u8]) -> IResult<&[u8], Header<'_>, BerError>
     ensures { AnswersBerHeader i.now result }
@@ -542,12 +539,11 @@ fn read_any_ber_header(i: &[u8]) -> IResult<&[u8], Header<'_>, BerError>
     Ok((rest, header_of(identifier, length)))
 }
 
-/// Reads the header at the start of an element as DER writes it: identifier octets (X.690 8.1.2) and a
-/// definite length in the fewest octets (10.1). The header has its identifier octets as raw tag.
+/// Reads the header at the start of an element by DER: identifier octets (X.690 8.1.2) and a definite length in the
+/// fewest octets (10.1). The raw tag is the identifier octets.
 ///
-/// Errors: InvalidTag, InvalidLength, and the DER constraints IndefiniteLength and LengthNotMinimal,
-/// each at the octet that shows it; Incomplete with the number of octets that a header lacks. It
-/// doesn't allocate.
+/// Errors: InvalidTag, InvalidLength, and the DER constraints IndefiniteLength and LengthNotMinimal, each as soon as an
+/// octet shows it. Incomplete with the number of octets that the header lacks. It doesn't allocate.
 #[inline(always)]
 pub fn der_read_element_header(i: &[u8]) -> IResult<&[u8], Header<'_>, BerError>
     ensures { AnswersDerHeader i.now result }
@@ -582,8 +578,8 @@ fn read_any_der_header(i: &[u8]) -> IResult<&[u8], Header<'_>, BerError>
     Ok((rest, header_of(identifier, Length::Definite(length))))
 }
 
-/// Reads a header of two octets, as most are: a tag number below 31 and a length below 128 (X.690
-/// 8.1.2.2, 8.1.3.4).
+/// Reads a header of two octets, as most are: the tag number is below 31 and the length below 128 (X.690 8.1.2.2,
+/// 8.1.3.4).
 #[inline(always)]
 fn read_short_header(i: &[u8]) -> Option<(&[u8], Header<'_>)>
     ensures ber { IfSome result (λ x. ReadsHeader i.now x.1 x.0.now) }
@@ -622,8 +618,7 @@ fn header_of(identifier: Identifier<'_>, length: Length) -> Header<'_>
     }
 }
 
-/// The number of calls of counted readers that were given this `HeaderCount`, one a header. Readers
-/// that aren't given it don't raise it. It stays at its greatest value.
+/// A count of the headers that counted readers read with it, also with an error. It stops at its greatest value.
 #[derive(Debug, Drop)]
 pub struct HeaderCount(u128);
 
@@ -641,7 +636,7 @@ impl HeaderCount {
         HeaderCount(0)
     }
 
-    /// The number of calls that were given this count.
+    /// The number of headers.
     pub fn count(&self) -> u128
         ensures { result ≡ self.now }
     {
@@ -656,7 +651,7 @@ impl HeaderCount {
     }
 }
 
-/// Reads a header like `ber_read_element_header`, and raises the given count by one, also on an error.
+/// Reads a header as `ber_read_element_header`, and raises the count by one, also on an error.
 #[inline(always)]
 pub fn ber_header_counted<'a>(
     i: &'a [u8],
@@ -669,7 +664,7 @@ pub fn ber_header_counted<'a>(
     ber_read_element_header(i)
 }
 
-/// Reads a header like `der_read_element_header`, and raises the given count by one, also on an error.
+/// Reads a header as `der_read_element_header`, and raises the count by one, also on an error.
 #[inline(always)]
 pub fn der_header_counted<'a>(
     i: &'a [u8],

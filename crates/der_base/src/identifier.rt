@@ -1,4 +1,4 @@
-//! Identifier octets: a class, whether the content is constructed, and a tag number (X.690 8.1.2).
+//! Identifier octets: a class, the constructed bit and a tag number (X.690 8.1.2).
 ghost use Rattle.std.specs.Prelude.{◌≡◌, ◌+◌, ◌/◌, ◌^◌, ◌<◌, ◌≤◌, ◌∷◌, ◌++◌};
 ghost use Rattle.der_base.specs.Answer.{MatchAnswer};
 ghost use Rattle.der_base.specs.Fault.{HasBadTag};
@@ -15,13 +15,12 @@ pub struct Identifier<'a> {
     pub class: Class,
     pub constructed: bool,
     pub tag: Tag,
-    /// The octets themselves.
+    /// The octets.
     pub octets: &'a [u8],
 }
 
-/// Reads the identifier octets at the start of the input. `InvalidTag` as soon as the octets show that
-/// they are none, or that their tag number is above 2^32-1; `Incomplete` of one octet if the input ends
-/// before.
+/// Reads the identifier octets at the start of the input. InvalidTag as soon as the octets break a rule or show a tag
+/// number above 2^32-1. Incomplete of one octet if the input ends before that.
 #[inline]
 pub fn read_identifier(i: &[u8]) -> IResult<&[u8], Identifier<'_>, BerError>
     ensures { MatchAnswer result
@@ -60,8 +59,8 @@ pub fn read_identifier(i: &[u8]) -> IResult<&[u8], Identifier<'_>, BerError>
     ))
 }
 
-/// The class, whether the content is constructed, and the five bits that are a tag number below
-/// 31, or 31 for the long form (8.1.2.2 to 8.1.2.5).
+/// The class, the constructed bit, and the low five bits: a tag number below 31, or 31 for the long form (8.1.2.2 to
+/// 8.1.2.5).
 #[inline]
 pub fn first_octet(first: u8) -> (Class, bool, u8)
     ensures octet { first ≡ leading_bits result.0 result.1 + result.2 }
@@ -83,8 +82,7 @@ pub fn class_of(first: u8) -> Class
     }
 }
 
-/// The first identifier octet with no bit of the tag number: the class, and whether the content is
-/// constructed (8.1.2.2, 8.1.2.5).
+/// The first identifier octet without the tag number: the class and the constructed bit (8.1.2.2, 8.1.2.5).
 #[inline]
 pub fn leading_octet(class: Class, constructed: bool) -> u8
     ensures bits { result ≡ leading_bits class constructed }
@@ -103,8 +101,8 @@ pub fn leading_octet(class: Class, constructed: bool) -> u8
     }
 }
 
-/// Reads the tag number after the first octet of the long form (8.1.2.4.2). The contract takes that
-/// octet as 1f. Any other first octet of the long form gives the same result.
+/// Reads the tag number after the first octet of the long form (8.1.2.4.2). The contract takes 1f as that octet. Any
+/// other first octet of the long form gives the same result.
 #[inline(never)]
 fn read_long_form(i: &[u8]) -> IResult<&[u8], Tag, BerError>
     ensures { MatchAnswer result

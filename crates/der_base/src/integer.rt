@@ -10,8 +10,8 @@ ghost use Rattle.der_base.specs.Tree.{bit_string, integer};
 
 use crate::error::{BerError, DerConstraint};
 
-/// Returns the number that content octets spell in two's complement, from -2^63 to 2^63-1. No octets
-/// spell 0. IntegerTooLarge for any other number.
+/// The number of content octets in two's complement, from -2^63 to 2^63-1. No octets are 0. IntegerTooLarge for any
+/// other number.
 pub fn read_i64(octets: &[u8]) -> Result<i64, BerError>
     ensures { AnswersSigned 64 (integer octets.now) result }
 {
@@ -24,15 +24,15 @@ pub fn read_i64(octets: &[u8]) -> Result<i64, BerError>
     fits.ok_or(BerError::IntegerTooLarge)
 }
 
-/// The same as `read_i64`, from -2^31 to 2^31-1.
+/// As `read_i64`, from -2^31 to 2^31-1.
 pub fn read_i32(octets: &[u8]) -> Result<i32, BerError>
     ensures { AnswersSigned 32 (integer octets.now) result }
 {
     i32::try_from(read_i64(octets)?).map_err(|_| BerError::IntegerTooLarge)
 }
 
-/// Returns the number that content octets spell in two's complement, from 0 to 2^64-1. No octets spell
-/// 0. IntegerNegative for a number below, IntegerTooLarge for one above.
+/// The number of content octets in two's complement, from 0 to 2^64-1. No octets are 0. IntegerNegative for a number
+/// below, IntegerTooLarge for one above.
 pub fn read_u64(octets: &[u8]) -> Result<u64, BerError>
     ensures range { MatchResult result
         (λ n. (n < 2 ^ 64) × (integer_value octets.now ≡ pos n))
@@ -48,16 +48,15 @@ pub fn read_u64(octets: &[u8]) -> Result<u64, BerError>
     }
 }
 
-/// The same as `read_u64`, from 0 to 2^32-1.
+/// As `read_u64`, from 0 to 2^32-1.
 pub fn read_u32(octets: &[u8]) -> Result<u32, BerError>
     ensures { AnswersUnsigned 32 (integer octets.now) result }
 {
     u32::try_from(read_u64(octets)?).map_err(|_| BerError::IntegerTooLarge)
 }
 
-/// Returns the number that the used bits of a BIT STRING spell, the highest first (8.6). The last
-/// `unused` bits aren't used. InvalidLength if there are fewer bits than that, IntegerTooLarge if the
-/// used octets are more than 8.
+/// The number in the used bits of a BIT STRING, the highest first (8.6). The last `unused` bits don't count.
+/// InvalidLength if there are fewer bits than that. IntegerTooLarge if more than 8 octets are used.
 pub fn read_used_bits(unused: u8, octets: &[u8]) -> Result<u64, BerError>
     ensures { AnswersUnsigned 64 (bit_string unused octets.now) result }
 {
@@ -71,7 +70,7 @@ pub fn read_used_bits(unused: u8, octets: &[u8]) -> Result<u64, BerError>
     }
 }
 
-/// Whether the number that content octets spell is below 0.
+/// Whether the number of content octets is below 0.
 #[inline]
 pub fn is_negative(octets: &[u8]) -> bool
     ensures negative { result ≡ true → integer_value octets.now <ℤ pos 0 }
@@ -83,8 +82,8 @@ pub fn is_negative(octets: &[u8]) -> bool
     }
 }
 
-/// Ok if content octets are the fewest for their number (8.3.2). IntegerEmpty if there are none,
-/// IntegerLeadingZeroes if the first nine bits are 0, IntegerLeadingFF if they are 1.
+/// Ok if content octets are the fewest for their number (8.3.2). IntegerEmpty if there are none, IntegerLeadingZeroes
+/// if the first nine bits are 0, IntegerLeadingFF if they are 1.
 #[inline(always)]
 pub fn check_fewest_octets(octets: &[u8]) -> Result<(), BerError>
     ensures { MatchResult result
@@ -103,7 +102,7 @@ pub fn check_fewest_octets(octets: &[u8]) -> Result<(), BerError>
     }
 }
 
-/// The unsigned number that octets spell, if it is below 2^64. Any number of leading zeros is allowed.
+/// The unsigned number in octets, if it is below 2^64. Leading zeros are allowed.
 #[inline]
 pub(crate) fn number_that_fits(octets: &[u8]) -> Option<usize>
     ensures { SomeIff result (number octets.now < 2 ^ 64) (number octets.now) }
@@ -118,7 +117,7 @@ pub(crate) fn number_that_fits(octets: &[u8]) -> Option<usize>
     Some(n)
 }
 
-/// The number that content octets spell, which isn't negative, if it is below 2^63.
+/// The number in content octets that isn't negative, if it is below 2^63.
 fn natural_that_fits(octets: &[u8]) -> Option<i64>
     requires { integer_value octets.now ≡ pos (number octets.now) }
     ensures { SomeIff result (integer_value octets.now <ℤ pos (2 ^ 63)) (integer_value octets.now) }
@@ -126,8 +125,8 @@ fn natural_that_fits(octets: &[u8]) -> Option<i64>
     i64::try_from(number_that_fits(octets)?).ok()
 }
 
-/// The negative number that content octets spell, if it is at least -2^63. The complements of the octets
-/// spell an unsigned number n, and the result is -1 - n.
+/// The negative number in content octets, if it is at least -2^63. If the octets' complements are the unsigned number
+/// n, it is -1 - n.
 fn negative_that_fits(octets: &[u8]) -> Option<i64>
     requires { integer_value octets.now <ℤ pos 0 }
     ensures { SomeIff result (neg_ℤ (pos (2 ^ 63)) ≤ℤ integer_value octets.now) (integer_value octets.now) }

@@ -1,5 +1,5 @@
 //! Laws of the types' `Clone` and `PartialEq`. Each function has a law as its contract and an empty
-//! body. The laws of the definitions are in `der_laws`.
+//! body. The laws of the definitions are in `der_values::laws`.
 ghost use Rattle.std.specs.Prelude.{◌≡◌};
 ghost use Rattle.std.specs.Cmp.{IsEquivalence};
 ghost use Rattle.der_base.specs.Copies.{

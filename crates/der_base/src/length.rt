@@ -10,15 +10,15 @@ use crate::error::{BerError, DerConstraint, Err, IResult, Needed};
 use crate::header::Length;
 use crate::integer::number_that_fits;
 
-/// The least length without a short form, which is one octet (X.690 8.1.3.4).
+/// The least length that needs more than one octet (X.690 8.1.3.4).
 const LEAST_LONG: usize = 128;
 
-/// Reads length octets as DER writes them, definite and the fewest (X.690 10.1). Returns what follows
-/// them, and the number of content octets.
+/// Reads a length as DER writes it, definite and in the fewest octets (X.690 10.1). Returns what follows it, and the
+/// number of content octets.
 ///
-/// Errors: InvalidLength for `ff` (8.1.3.5 c), and for a number above 2^64-1 once all its octets are
-/// there; the DER constraint IndefiniteLength; then the DER constraint LengthNotMinimal. Incomplete of
-/// 1 if there is no octet, else of the announced octets that are missing.
+/// Errors: InvalidLength for `ff` (8.1.3.5 c), and for a number above 2^64-1 once all its octets are there; the DER
+/// constraint IndefiniteLength; then the DER constraint LengthNotMinimal. Incomplete of 1 if there is no octet, else of
+/// the octets that the first one announces and that are missing.
 #[inline]
 pub fn read_der_length(s: &[u8]) -> IResult<&[u8], usize, BerError>
     ensures { MatchAnswer result
@@ -36,11 +36,11 @@ pub fn read_der_length(s: &[u8]) -> IResult<&[u8], usize, BerError>
     read_long_der_length(*first, behind)
 }
 
-/// Reads length octets as BER allows them (X.690 8.1.3), after an identifier that is constructed or
-/// primitive. Returns what follows them, and the length.
+/// Reads a length as BER allows it (X.690 8.1.3), after a constructed or primitive identifier. Returns what follows it,
+/// and the length.
 ///
-/// Errors: InvalidLength as by DER; ConstructExpected for the indefinite form after a primitive
-/// identifier (8.1.3.2). Incomplete as by DER.
+/// Errors: InvalidLength as by DER; ConstructExpected for the indefinite form after a primitive identifier (8.1.3.2).
+/// Incomplete as by DER.
 #[inline]
 pub fn read_ber_length(constructed: bool, s: &[u8]) -> IResult<&[u8], Length, BerError>
     ensures { MatchAnswer result
@@ -58,7 +58,7 @@ pub fn read_ber_length(constructed: bool, s: &[u8]) -> IResult<&[u8], Length, Be
     read_long_ber_length(constructed, *first, behind)
 }
 
-/// The rest of `read_der_length`, after a first octet of at least 128.
+/// `read_der_length` after a first octet of at least 128.
 fn read_long_der_length(first: u8, behind: &[u8]) -> IResult<&[u8], usize, BerError>
     requires { 128 ≤ first }
     ensures { MatchAnswer result
@@ -80,7 +80,7 @@ fn read_long_der_length(first: u8, behind: &[u8]) -> IResult<&[u8], usize, BerEr
     Ok((rest, n))
 }
 
-/// The rest of `read_ber_length`, after a first octet of at least 128.
+/// `read_ber_length` after a first octet of at least 128.
 fn read_long_ber_length(
     constructed: bool,
     first: u8,
@@ -106,8 +106,7 @@ fn read_long_ber_length(
     Ok((rest, Length::Definite(n)))
 }
 
-/// Takes the octets of the number that a first octet above 128 announces. Returns what follows them,
-/// and these octets.
+/// Takes the octets of the length that a first octet above 128 announces. Returns what follows them, and these octets.
 fn announced_octets(first: u8, behind: &[u8]) -> IResult<&[u8], &[u8], BerError>
     requires { 128 < first }
     ensures { MatchAnswer result

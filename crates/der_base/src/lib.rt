@@ -19,10 +19,9 @@ pub mod spans;
 pub mod text;
 pub mod time;
 
-/// The depth of readers that are given none, and the framing budget of indefinite lengths. Contracts
-/// write it as the number 50, and `framing_budget` where it is the budget.
+/// The depth of readers that take none as an argument, and the framing budget of indefinite lengths. Contracts write 50
+/// for the depth and `framing_budget` for the budget.
 pub const MAX_RECURSION: usize = 50;
 
-/// The greatest number of content octets of an object that a DER reader takes, 2^32-1. Contracts write
-/// it as `max_object_size`.
+/// The most content octets of an object that a DER reader takes, 2^32-1. Contracts call it `max_object_size`.
 pub const MAX_OBJECT_SIZE: usize = 4294967295;

@@ -52,8 +52,8 @@ impl<'a> Oid<'a> {
 
     /// The OBJECT IDENTIFIER with these arcs (8.19).
     ///
-    /// Errors: TooShort for fewer than two arcs; FirstComponentsTooLarge if the first is above 2, the
-    /// second above 39 after 0 or 1, or their subidentifier above 2^64-1; OutOfMemory.
+    /// Errors: TooShort for fewer than two arcs; FirstComponentsTooLarge if the first is above 2, the second is above
+    /// 39 after 0 or 1, or their subidentifier is above 2^64-1; OutOfMemory.
     pub fn from(alloc: Global, arcs: &[u64]) -> Result<Oid<'a>, OidParseError>
         ensures { Makes false (octets_of_arcs false arcs.now) result }
     {
@@ -83,11 +83,11 @@ impl<'a> Oid<'a> {
         Ok(Oid::new_relative(CowSlice::Owned(octets)))
     }
 
-    /// The OBJECT IDENTIFIER of a dotted text: arcs in decimal digits with a point between them.
-    /// Leading zeros are allowed.
+    /// The OBJECT IDENTIFIER of a dotted text: arcs in decimal digits with a point between them. Leading zeros are
+    /// allowed.
     ///
-    /// Errors: ParseInt if a component is empty, isn't made of digits, or is above 2^64-1; then those
-    /// of `from`.
+    /// Errors: ParseInt if a component is empty, isn't made of digits, or is above 2^64-1; then those of `from`.
+    /// OutOfMemory can replace any result.
     ///
     /// ```
     /// let common_name = Oid::from_dotted(alloc, "2.5.4.3")?;
@@ -100,8 +100,7 @@ impl<'a> Oid<'a> {
         Oid::from(alloc, &arcs)
     }
 
-    /// A copy. A borrowed identifier is copied without allocation, and the copy is borrowed from the
-    /// same offset.
+    /// A copy. A borrowed identifier is copied without allocation, and its copy borrows the same octets.
     pub fn try_clone(&self, alloc: Global) -> Result<Oid<'a>, AllocError>
         ensures same { IfOk result
             (λ x. (octets_of x ≡ octets_of self.now) × (is_relative_of x ≡ is_relative_of self.now)) }
@@ -131,8 +130,8 @@ impl<'a> Oid<'a> {
         self.relative
     }
 
-    /// The arcs, in order. None if a subidentifier lacks its last octet, or has ten octets or more
-    /// (8.19.2). An identifier without octets has no arcs.
+    /// The arcs, in order. None if a subidentifier has no last octet, or has ten octets or more (8.19.2). An identifier
+    /// without octets has no arcs.
     pub fn iter(&self) -> Option<OidIter<'_>>
         ensures { option_map arcs_left result ≡ arcs (is_relative_of self.now) (octets_of self.now) }
     {
@@ -174,12 +173,11 @@ impl PartialEq for Oid<'_> {
 /// The arc that an iterator returns next.
 #[derive(Clone, Copy, Debug)]
 enum NextArc {
-    /// The first of the two arcs that the first subidentifier of an absolute identifier holds
-    /// (8.19.4).
+    /// The first of the two arcs in the first subidentifier of an absolute identifier (8.19.4).
     First,
-    /// The second of them.
+    /// The second arc of the first subidentifier.
     Second(u64),
-    /// The one in the next subidentifier.
+    /// The arc in the next subidentifier.
     Further,
 }
 
@@ -233,18 +231,18 @@ fn parse_arcs(alloc: Global, text: &str) -> Result<Vec<u64>, OidParseError>
     Ok(arcs)
 }
 
-/// The number of at most 2^64-1 that digits write.
+/// The number in decimal digits, if it is below 2^64.
 fn parse_arc(digits: &str) -> Option<u64>
     ensures { SomeIff result (IsTrue (is_arc digits.now)) (digits_value 10 digits.now) }
 {
-    // `parse` accepts a sign, which is no digit.
+    // `parse` accepts a sign, which isn't a digit.
     if digits.starts_with('+') {
         return None;
     }
     digits.parse().ok()
 }
 
-/// The two arcs that the first subidentifier of an absolute identifier holds (8.19.4).
+/// The two arcs in the first subidentifier of an absolute identifier (8.19.4).
 fn first_arcs(value: u64) -> (u64, u64)
     ensures { first_arcs value ≡ result.0 ∷ result.1 ∷ [] }
 {
@@ -255,7 +253,7 @@ fn first_arcs(value: u64) -> (u64, u64)
     }
 }
 
-/// The greatest number of octets before the last one in a subidentifier of fewer than ten octets.
+/// The most octets before the last one in a subidentifier of fewer than ten octets.
 const MOST_BEFORE_LAST: usize = 8;
 
 /// Whether each subidentifier has a last octet, and fewer than ten octets.
@@ -329,8 +327,7 @@ fn push_subidentifier(octets: &mut Vec<u8>, value: u64) -> Result<(), AllocError
     octets.extend_from_slice(&last_groups[begin..])
 }
 
-/// `iter` of an identifier that was made from arcs returns these arcs, if each of its subidentifiers
-/// is below 2^63.
+/// For an identifier that was made from arcs, `iter` returns these arcs, if each of its subidentifiers is below 2^63.
 pub fn arcs_come_back()
     ensures { ArcsComeBack }
 {}

@@ -8,8 +8,8 @@ ghost use Rattle.der_base.specs.Pretty.{arcs_text, dotted, hex, hex_pair, pointe
 use crate::oid::{Oid, OidIter};
 use std::fmt;
 
-/// The arcs with points between them, as in `1.2.840.113549`. If `iter` returns None, the octets in
-/// hexadecimal, as in `[2a 86]`. The text of an identifier without octets is empty.
+/// The arcs with points between them, as in `1.2.840.113549`. If `iter` returns None, the octets in hexadecimal, as in
+/// `[2a 86]`. Without octets the text is empty.
 impl fmt::Display for Oid<'_> {
     ghost output = { λ o. Some (arcs_text (arcs (is_relative_of o) (octets_of o)) (octets_of o)) };
 

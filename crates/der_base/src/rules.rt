@@ -7,9 +7,9 @@ use crate::header::{Header, ber_read_element_header, der_read_element_header};
 /// The basic or the distinguished encoding rules (X.690 8 and 10).
 #[derive(Clone, Copy, Debug, PartialEq)]
 pub enum Rules {
-    /// The basic ones.
+    /// The Basic Encoding Rules.
     Ber,
-    /// The distinguished ones.
+    /// The Distinguished Encoding Rules.
     Der,
 }
 

@@ -2,8 +2,8 @@
 ghost use Rattle.std.specs.Prelude.{◌↔◌, IsTrue};
 ghost use Rattle.der_base.specs.SetOfOrder.{Descends};
 
-/// Returns whether `first` is greater than `second`, octet by octet: DER refuses a SET OF with them in
-/// this order. The shorter is padded at its end with octets of 0 (X.690 11.6).
+/// Whether `first` is greater than `second`, octet by octet: DER rejects a SET OF with them in this order. Zeros are
+/// appended to the shorter one (X.690 11.6).
 #[inline]
 pub fn descends(first: &[u8], second: &[u8]) -> bool
     ensures { IsTrue result ↔ Descends first.now second.now }

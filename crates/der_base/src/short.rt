@@ -1,5 +1,5 @@
-//! Elements as most are: an identifier octet and a length of one octet (X.690 8.1.2.2, 8.1.3.4). Readers
-//! ask for these first, and read any other element whole.
+//! Elements as most are: an identifier octet and a length of one octet (X.690 8.1.2.2, 8.1.3.4). Readers try these
+//! first, and read any other element in full.
 ghost use Rattle.std.specs.Prelude.{IfSome};
 ghost use Rattle.der_base.specs.Short.{IsShort};
 

@@ -1,5 +1,5 @@
-//! Framing that records: the content of an indefinite length is read once to its end marker, and each
-//! element inside it is kept (X.690 8.1.3.6). The octets inside a definite length aren't looked into.
+//! Framing that records: the content of an indefinite length is read once to its end-of-contents octets, and each
+//! element inside it is kept (X.690 8.1.3.6). A definite content is skipped.
 ghost use Rattle.std.specs.Prelude.{◌≡◌, ◌≤◌, ◌+◌, ◌*◌, ◌-◌, ◌++◌, IfOk, List, ℕ, length};
 ghost use Rattle.der_base.specs.declared.header.Length.{Length};
 ghost use Rattle.der_base.specs.declared.spans.Span.{Span};
@@ -20,14 +20,13 @@ use crate::header::{Header, HeaderCount, Length, ber_header_counted};
 pub struct Span<'a> {
     /// The element.
     pub element: Any<'a>,
-    /// How many of the following spans are of elements inside this one. 0 for a definite length.
+    /// How many of the following spans are elements inside this one. 0 for a definite length.
     pub inside: usize,
 }
 
-/// Reads the content after a header of this length like `ber_read_content`. Appends to `spans` the
-/// elements inside an indefinite length, in the order of their headers. The given count is raised by
-/// one for each header that is read, so by at least the number of new spans. Each header takes at least
-/// two octets.
+/// Reads the content after a header with this length as `ber_read_content`. Appends the elements inside an indefinite
+/// length to `spans`, in the order of their headers. Raises the count by one for each header that is read, so by at
+/// least the number of new spans. Each header takes at least two octets.
 #[inline(always)]
 pub fn ber_record_content<'a>(
     i: &'a [u8],
@@ -55,8 +54,8 @@ pub fn ber_record_content<'a>(
     }
 }
 
-/// Reads the elements before the end marker of an indefinite length. The header of each is read before
-/// the budget is looked at. The end marker needs budget too.
+/// Reads the elements before the end-of-contents octets of an indefinite length. Each header is read before the budget
+/// is checked. The end-of-contents octets need budget too.
 #[cycle(recording)]
 #[inline(never)]
 fn record_to_end_marker<'a>(
@@ -98,8 +97,7 @@ fn record_to_end_marker<'a>(
     }
 }
 
-/// Records the element of this header, which has an indefinite length, and those inside it. Returns
-/// what follows them.
+/// Records the element with this header, whose length is indefinite, and the elements inside it. Returns what follows.
 #[cycle(recording)]
 #[inline(never)]
 fn record_open<'a>(

@@ -1,14 +1,13 @@
-//! The content octets of the string types (X.690 8.23), as this project keeps them: octets of a
-//! character set, or UTF-8, are a `&str`.
+//! The content octets of the string types (X.690 8.23) that are kept as a `&str`: octets of a character set, or UTF-8.
 ghost use Rattle.std.specs.Prelude.{◌≡◌, ◌↔◌, ◌<◌, IsTrue, All, MatchOption, false};
 ghost use Rattle.der_base.specs.Text.{is_ia5, is_numeric, is_printable, is_text_type, is_within, IsTextOf, IsUtf16};
 
 use crate::header::Tag;
 use std::str;
 
-/// Reads the content octets of a string type that is kept as a text: NumericString, PrintableString,
-/// IA5String and VisibleString in their character sets; ObjectDescriptor, UTF8String, T61String,
-/// VideotexString, GraphicString and GeneralString as UTF-8.
+/// Reads the content octets of a string type that is kept as a text: NumericString, PrintableString, IA5String and
+/// VisibleString in their character sets; ObjectDescriptor, UTF8String, T61String, VideotexString, GraphicString and
+/// GeneralString as UTF-8.
 ///
 /// None if an octet isn't in the set, if the octets aren't UTF-8, and for any other type.
 pub fn read_text(tag: Tag, content: &[u8]) -> Option<&str>
@@ -36,7 +35,7 @@ pub fn read_text(tag: Tag, content: &[u8]) -> Option<&str>
     }
 }
 
-/// Whether this project keeps strings of a type as text: those that `read_text` reads.
+/// Whether `read_text` reads strings of this type.
 #[inline]
 pub fn is_text_type(tag: Tag) -> bool
     ensures { result ≡ is_text_type tag.0 }
@@ -59,7 +58,7 @@ fn is_ia5(content: &[u8]) -> bool
     content.is_ascii()
 }
 
-// Each character of a PrintableString is at its own index, and an underscore is at every other index.
+// Each character of a PrintableString is at its own index. Every other index has an underscore.
 static PRINTABLE: [u8; 256] = *b"\
     ________________________________\
     \x20______'()_+,-./0123456789:__=_?\
@@ -88,8 +87,7 @@ fn ascii_text(content: &[u8]) -> &str
     unsafe { str::from_utf8_unchecked(content) }
 }
 
-/// Whether the octets are UTF-16, big endian: no surrogate is without its partner. An odd last octet
-/// isn't looked at.
+/// Whether the octets are UTF-16, big endian: each surrogate has its partner. An odd last octet isn't looked at.
 pub fn is_utf16(content: &[u8]) -> bool
     ensures { IsTrue result ↔ IsUtf16 content.now }
 {

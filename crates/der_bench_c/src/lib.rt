@@ -1,33 +1,33 @@
-//! The readers as a program in C calls them, for measuring: a slice crosses as a pointer and a
-//! length.
+//! The readers, called from a C program for measurements. A slice is a pointer and a length there.
 #![tactic(auto)]
 
-use der_distinguished_name::read_name;
+use der_base::rules::Rules;
+use der_elements::check::{Element, Listed, list_element};
 use der_extensions::read_extension_value;
-use der_nodes::{Element, parse_ber_nodes, parse_der_nodes};
 use der_parser::ber::{
     Any, BerObject, BerObjectContent, FaultWriter, MAX_RECURSION, Visit, parse_ber,
 };
 use der_parser::cursor::Cursor;
 use der_parser::der::{Class, parse_der};
-use der_x509::parts::read_name as read_certificate_name;
-use der_x509::{Certificate, Name, RelativeDistinguishedName, read_certificate};
+use der_uses::names::read_name;
 use std::alloc::Global;
+use x509::parts::read_name as read_certificate_name;
+use x509::{Certificate, Name, RelativeDistinguishedName, read_certificate};
 
-/// What one pass does with each element.
+/// What a pass does with each element.
 #[derive(Clone, Copy, PartialEq)]
 enum Mode {
-    /// Reads it by DER.
+    /// Reads the element by DER.
     Der,
-    /// Reads it by BER.
+    /// Reads the element by BER.
     Ber,
-    /// Reads it by BER, and writes it as DER does.
+    /// Reads the element by BER, and writes it as DER.
     Canonical,
-    /// Reads it by BER, and writes its text.
+    /// Reads the element by BER, and writes its text.
     Printed,
 }
 
-/// How many objects are in an object, itself among them.
+/// The number of objects in an object, counting itself.
 #[cycle(counting)]
 fn count_object(object: &BerObject<'_>) -> u64 {
     match &object.content {
@@ -37,7 +37,7 @@ fn count_object(object: &BerObject<'_>) -> u64 {
     }
 }
 
-/// How many objects are in objects, themselves among them.
+/// The number of objects in objects, counting themselves.
 #[cycle(counting)]
 fn count_objects(objects: &[BerObject<'_>]) -> u64 {
     let mut count: u64 = 0;
@@ -47,7 +47,7 @@ fn count_objects(objects: &[BerObject<'_>]) -> u64 {
     count
 }
 
-/// Writes the text of an object, and answers whether it was written.
+/// Writes the text of an object, and returns whether it was written.
 fn is_printed(alloc: Global, object: &BerObject<'_>) -> bool {
     let mut out = FaultWriter::new(Vec::<u8>::new(alloc));
     match object.as_pretty(alloc, 0, 2) {
@@ -56,7 +56,7 @@ fn is_printed(alloc: Global, object: &BerObject<'_>) -> bool {
     }
 }
 
-/// The elements of a slice, one behind the other, or none of them where one is refused.
+/// The elements of a slice, one after another, or None if one is rejected.
 fn read_objects<'a>(alloc: Global, s: &'a [u8], mode: Mode) -> Option<Vec<BerObject<'a>>> {
     let mut objects = Vec::new(alloc);
     let mut left = s;
@@ -85,8 +85,7 @@ fn read_objects<'a>(alloc: Global, s: &'a [u8], mode: Mode) -> Option<Vec<BerObj
     Some(objects)
 }
 
-/// How many elements stand in a slice, one behind the other, with no look into them; 0 where one is
-/// refused.
+/// The number of elements of a slice, whose content isn't read; 0 if one is rejected.
 fn count_elements(s: &[u8]) -> u64 {
     let mut count: u64 = 0;
     let mut left = s;
@@ -119,7 +118,7 @@ impl Visit for Counter {
     }
 }
 
-/// How many objects a visitor meets in a slice, read by BER; 0 where one is refused.
+/// The number of objects that a visitor meets in a slice, by BER; 0 if one is rejected.
 fn count_visited(alloc: Global, s: &[u8]) -> u64 {
     let Some(objects) = read_objects(alloc, s, Mode::Ber) else {
         return 0;
@@ -131,7 +130,7 @@ fn count_visited(alloc: Global, s: &[u8]) -> u64 {
     counter.objects
 }
 
-/// How many objects a slice has; 0 where one is refused.
+/// The number of objects of a slice; 0 if one is rejected.
 fn count_read(alloc: Global, s: &[u8], mode: Mode) -> u64 {
     match read_objects(alloc, s, mode) {
         Some(objects) => count_objects(&objects),
@@ -139,7 +138,7 @@ fn count_read(alloc: Global, s: &[u8], mode: Mode) -> u64 {
     }
 }
 
-/// How many attributes the names of a slice have, one name behind the other; 0 where one is refused.
+/// The number of attributes in the names of a slice; 0 if one is rejected.
 fn count_attributes(alloc: Global, s: &[u8]) -> u64 {
     let mut names = Vec::new(alloc);
     let mut left = s;
@@ -164,7 +163,7 @@ fn count_attributes(alloc: Global, s: &[u8]) -> u64 {
     count
 }
 
-/// The same of names that are read with a cursor.
+/// The number of attributes in the names of a slice, read with a cursor; 0 if one is rejected.
 fn count_cursor_attributes(alloc: Global, s: &[u8]) -> u64 {
     let mut names = Vec::new(alloc);
     let mut left = Cursor::new(s);
@@ -186,7 +185,7 @@ fn count_cursor_attributes(alloc: Global, s: &[u8]) -> u64 {
     count
 }
 
-/// How many attributes a name has.
+/// The number of attributes of a name.
 fn count_attributes_of(name: &Name<'_>) -> u64 {
     let mut count: u64 = 0;
     for relative_name in name.relative_names() {
@@ -195,7 +194,7 @@ fn count_attributes_of(name: &Name<'_>) -> u64 {
     count
 }
 
-/// How many attributes a relative name has.
+/// The number of attributes of a relative name.
 fn count_in_relative_name(name: RelativeDistinguishedName<'_>) -> u64 {
     let mut count: u64 = 0;
     for _attribute in name.attributes() {
@@ -204,7 +203,7 @@ fn count_in_relative_name(name: RelativeDistinguishedName<'_>) -> u64 {
     count
 }
 
-/// How many certificates a slice has, one after another, read by `der_x509`; 0 where one is refused.
+/// The number of certificates of a slice, read by `x509`; 0 if one is rejected.
 fn count_certificates(alloc: Global, s: &[u8]) -> u64 {
     let mut certificates = Vec::new(alloc);
     let mut left = s;
@@ -227,8 +226,7 @@ fn count_certificates(alloc: Global, s: &[u8]) -> u64 {
     certificates.len() as u64
 }
 
-/// How many certificates a slice has, one after another, whose extensions' values are read too; 0 where
-/// one is refused.
+/// The number of certificates of a slice, whose extension values are read too; 0 if one is rejected.
 fn count_certificate_values(s: &[u8]) -> u64 {
     let mut count: u64 = 0;
     let mut left = s;
@@ -249,7 +247,7 @@ fn count_certificate_values(s: &[u8]) -> u64 {
     count
 }
 
-/// How many values of extensions of a certificate are of their type.
+/// The number of valid extension values of a certificate.
 fn count_values(certificate: &Certificate<'_>) -> u64 {
     let mut count: u64 = 0;
     for extension in certificate.tbs_certificate.extensions.iter() {
@@ -260,36 +258,25 @@ fn count_values(certificate: &Certificate<'_>) -> u64 {
     count
 }
 
-/// How many elements one call of a reader of elements finds at the start of a slice, and what follows.
-fn read_nodes<'a>(s: &'a [u8], nodes: &mut [Element], is_der: bool) -> Option<(&'a [u8], usize)> {
-    let read = if is_der {
-        parse_der_nodes(s, MAX_RECURSION, nodes)
-    } else {
-        parse_ber_nodes(s, MAX_RECURSION, nodes)
-    };
-    read.ok()
-}
-
-/// How many elements a slice has, each written to the buffer as far as there is room; 0 where one is
-/// refused.
-fn count_nodes(s: &[u8], nodes: &mut [Element], is_der: bool) -> u64 {
+/// The number of elements of a slice, each written to the buffer as far as its capacity allows; 0 if one is rejected.
+fn count_nodes(s: &[u8], nodes: &mut [Element], rules: Rules) -> u64 {
     let mut count: u64 = 0;
     let mut left = s;
     for _ in 0..u64::MAX {
         if left.is_empty() {
             break;
         }
-        let Some((rest, number)) = read_nodes(left, nodes, is_der) else {
+        let Some(Listed { elements, rest }) = list_element(left, rules, MAX_RECURSION, nodes) else {
             return 0;
         };
-        count = count.wrapping_add(number as u64);
+        count = count.wrapping_add(elements as u64);
         left = rest;
     }
     count
 }
 
-/// The same with a buffer of 65,536 elements.
-fn count_in_buffer(alloc: Global, s: &[u8], is_der: bool) -> u64 {
+/// The number of elements of a slice, written to a buffer of 65,536 elements; 0 if one is rejected.
+fn count_in_buffer(alloc: Global, s: &[u8], rules: Rules) -> u64 {
     let none = Element {
         class: Class::Universal,
         constructed: false,
@@ -301,19 +288,22 @@ fn count_in_buffer(alloc: Global, s: &[u8], is_der: bool) -> u64 {
         inside: 0,
     };
     match vec![in alloc; none; 65536] {
-        Ok(mut nodes) => count_nodes(s, &mut nodes, is_der),
+        Ok(mut nodes) => count_nodes(s, &mut nodes, rules),
         Err(_) => 0,
     }
 }
 
-/// One pass over the elements of a slice: 0 reads them by DER, 1 by BER, 2 by BER and writes each
-/// as DER does, 3 by BER and writes the text of each, 4 reads the outermost elements alone, 5 reads
-/// names (X.501 9.2), 6 reads elements by BER and counts them by a visitor, 7 reads names and keeps
-/// their attributes as octets, 8 reads certificates (RFC 5280), 9 writes the elements of each to a
-/// buffer by DER, 10 does so without a buffer, 11 and 12 do these by BER, 14 reads certificates and the
-/// values of their extensions. It keeps the objects that it reads until its end, and returns how many
-/// objects or elements it read, those inside lists among them, or how many attributes, certificates or
-/// extensions; 0 where an element is refused, and for another mode.
+/// One pass over a slice. It keeps the objects that it reads, and returns the number of objects, elements, attributes,
+/// certificates or extension values; 0 if an element is rejected, and for any other mode. The modes:
+///
+/// - 0, 1: read objects by DER, by BER
+/// - 2, 3: read objects by BER, and write each as DER, as text
+/// - 4: read the headers of the outermost elements
+/// - 5, 7: read names (X.501 9.2), with their attributes as octets for 7
+/// - 6: read objects by BER and count them with a visitor
+/// - 8, 14: read certificates (RFC 5280), for 14 with the values of their extensions
+/// - 9, 11: list elements in a buffer, by DER, by BER
+/// - 10, 12: the same without a buffer
 #[unsafe(no_mangle)]
 pub extern "C" fn der_bench_pass(alloc: Global, s: &[u8], mode: u64) -> u64 {
     match mode {
@@ -326,10 +316,10 @@ pub extern "C" fn der_bench_pass(alloc: Global, s: &[u8], mode: u64) -> u64 {
         6 => count_visited(alloc, s),
         7 => count_cursor_attributes(alloc, s),
         8 => count_certificates(alloc, s),
-        9 => count_in_buffer(alloc, s, true),
-        10 => count_nodes(s, &mut [], true),
-        11 => count_in_buffer(alloc, s, false),
-        12 => count_nodes(s, &mut [], false),
+        9 => count_in_buffer(alloc, s, Rules::Der),
+        10 => count_nodes(s, &mut [], Rules::Der),
+        11 => count_in_buffer(alloc, s, Rules::Ber),
+        12 => count_nodes(s, &mut [], Rules::Ber),
         14 => count_certificate_values(s),
         _ => 0,
     }

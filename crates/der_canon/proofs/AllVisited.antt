@@ -3,9 +3,9 @@ use Rattle.std.proofs.Common.{ℕ, suc, ◌+◌, true, false, List, [], ◌∷�
 use Rattle.der_base.specs.Octets.{identifier}
 use Rattle.der_base.specs.Spelling.{end_marker}
 use Rattle.der_base.specs.declared.rules.Rules.{Rules}
-use Rattle.der_check.specs.Elements.{AreElements, IsElement}
-use Rattle.der_check.specs.Elements.{none as no_elements, one_more as one_element, primitive as primitive_element, constructed as constructed_element, indefinite as indefinite_element}
-use Rattle.der_walk.specs.Visits.{Visited, Visits, VisitsOne, none, one_more, primitive, constructed, indefinite}
+use Rattle.der_elements.specs.Check.Elements.{AreElements, IsElement}
+use Rattle.der_elements.specs.Check.Elements.{none as no_elements, one_more as one_element, primitive as primitive_element, constructed as constructed_element, indefinite as indefinite_element}
+use Rattle.der_elements.specs.Visits.{Visited, Visits, VisitsOne, none, one_more, primitive, constructed, indefinite}
 use Rattle.der_canon.specs.Same.{no_extras}
 
 mutual

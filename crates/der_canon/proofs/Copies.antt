@@ -1,7 +1,7 @@
 -- Octets that are written at the start of a buffer.
 use Rattle.std.proofs.Common.{◌≡◌, ℕ, zero, suc, ◌≤◌, ◌⊎◌, min, List, [], ◌∷◌, ◌++◌, length, take, drop, take-take, refl, sym, ap, ◌∙◌, arith, inl, inr}
 use Rattle.std.proofs.lemmas.List.{take_all, drop_all, take-append-le}
-use Rattle.der_nodes.specs.Places.{overlay}
+use Rattle.der_elements.specs.Check.Overlay.{overlay}
 
 -- those that fit, and what the buffer held after them
 pub overlay_start : (xs ys : List ℕ) → overlay xs 0 ys ≡ take (length xs) ys ++ drop (length ys) xs

@@ -6,11 +6,11 @@ use Rattle.der_base.specs.declared.header.Class.{Class}
 use Rattle.der_base.specs.declared.rules.Rules.TheVariants.{Ber}
 use Rattle.der_base.specs.Octets.{identifier, SpellsLength}
 use Rattle.der_base.specs.Spelling.{end_marker}
-use Rattle.der_walk.specs.declared.element.Element.{Element}
-use Rattle.der_walk.specs.Visits.{IsHeaderBy, Visited, Visits, VisitsOne, none, one_more, primitive, broken, string, constructed, indefinite}
-use Rattle.der_walk.specs.declared.walk.Walk.{Walk}
-use Rattle.der_walk.specs.Walked.{HasOctets, HasVisited, visited_of}
-use Rattle.der_walk.proofs.Steps.{within}
+use Rattle.der_elements.specs.declared.element.Element.{Element}
+use Rattle.der_elements.specs.Visits.{IsHeaderBy, Visited, Visits, VisitsOne, none, one_more, primitive, broken, string, constructed, indefinite}
+use Rattle.der_elements.specs.declared.walk.Walk.{Walk}
+use Rattle.der_elements.specs.Walked.{HasOctets, HasVisited, visited_of}
+use Rattle.der_elements.proofs.Steps.{within}
 use Rattle.der_canon.specs.Same.{no_extras}
 use Rattle.der_canon.specs.declared.size.Sizes.{Sizes}
 use Rattle.der_canon.specs.Sizing.{ComesTo, IsFound, cost, costs, sum}

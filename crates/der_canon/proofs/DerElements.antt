@@ -7,8 +7,8 @@ use Rattle.der_base.specs.declared.rules.Rules.TheVariants.{Ber, Der}
 use Rattle.der_base.specs.Encoding.{element}
 use Rattle.der_base.specs.Leaf.{is_list, is_mapped}
 use Rattle.der_base.specs.Octets.{identifier, shortest_length}
-use Rattle.der_check.specs.Elements.{AreElements, IsElement, MayBeConstructed, is_always_primitive}
-use Rattle.der_check.specs.Elements.{none as no_elements, one_more as one_element, primitive as primitive_element, constructed as constructed_element}
+use Rattle.der_elements.specs.Check.Elements.{AreElements, IsElement, MayBeConstructed, is_always_primitive}
+use Rattle.der_elements.specs.Check.Elements.{none as no_elements, one_more as one_element, primitive as primitive_element, constructed as constructed_element}
 use Rattle.der_canon.specs.Values.{value_in_der}
 use Rattle.der_canon.specs.Same.{AreInDer, IsConstructed, IsInDer, is_string, is_string_of, none, one_more, primitive, constructed, string}
 

@@ -7,7 +7,7 @@ use Rattle.der_base.specs.declared.header.Class.TheVariants.{Universal}
 use Rattle.der_base.specs.declared.rules.Rules.TheVariants.{Ber, Der}
 use Rattle.der_contents.specs.declared.content_error.ContentError.{ContentError}
 use Rattle.der_contents.specs.ContentRules.{AllHold, Checks, IsContent, IsFirstBroken, Rule, bit_string_rules, boolean_rules, content_rules}
-use Rattle.der_walk.specs.declared.cause.Cause.{Cause}
+use Rattle.der_elements.specs.declared.cause.Cause.{Cause}
 use Rattle.der_writer.specs.Octets.{cleared}
 use Rattle.der_canon.specs.NoDer.{ChecksForm, ChecksValue, HasNoForm, rules_of}
 use Rattle.der_canon.specs.Values.{bits_in_der, boolean_in_der, boolean_octet, content_in_der}

@@ -2,7 +2,7 @@
 use Rattle.std.proofs.Common.{ℕ, ◌≤◌, false, not, List, [], ◌∷◌, ◌++◌, length, length-append, ap, arith}
 use Rattle.der_base.specs.Encoding.{element}
 use Rattle.der_base.specs.Octets.{identifier, shortest_length}
-use Rattle.der_walk.specs.Visits.{Visited}
+use Rattle.der_elements.specs.Visits.{Visited}
 use Rattle.der_writer.proofs.Headers.{length_some}
 use Rattle.der_canon.specs.Contents.{Completes, Contents, KeepsIn, KeepsString, Writes, WritesAll, all_octets, sized, stay, close, part, primitive, constructed}
 use Rattle.der_canon.specs.Same.{content_of, is_in_parts}

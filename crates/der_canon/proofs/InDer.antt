@@ -10,9 +10,9 @@ use Rattle.der_contents.specs.ContentRules.{IsContent}
 use Rattle.der_base.specs.Encoding.{element}
 use Rattle.der_base.specs.Octets.{identifier, shortest_length}
 use Rattle.der_base.specs.Spelling.{end_marker}
-use Rattle.der_check.specs.Elements.{MayBeConstructed, MayHaveContent}
-use Rattle.der_walk.specs.Visits.{Visited, Visits, VisitsOne, visited, none, one_more, primitive, broken, string, constructed, indefinite}
-use Rattle.der_walk.proofs.Between.{between_front, drop_front}
+use Rattle.der_elements.specs.Check.Elements.{MayBeConstructed, MayHaveContent}
+use Rattle.der_elements.specs.Visits.{Visited, Visits, VisitsOne, visited, none, one_more, primitive, broken, string, constructed, indefinite}
+use Rattle.der_elements.proofs.Between.{between_front, drop_front}
 use Rattle.der_canon.specs.Contents.{AreWritten, Completes, Contents, KeepsIn, KeepsString, Writes, WritesAll, no_contents, sized, start_of, with_part_of, stay, close}
 use Rattle.der_canon.specs.Contents.{part as writes_part, primitive as writes_primitive, constructed as writes_constructed}
 use Rattle.der_canon.specs.Same.{AreInDer, AreJoined, IsConstructed, IsInDer, IsPartJoined, content_of, is_in_parts, is_part, is_string, is_string_of, no_extras, parts_of, string_start, with_part}

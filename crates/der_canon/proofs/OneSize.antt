@@ -2,9 +2,9 @@
 use Rattle.std.proofs.Common.{◌≡◌, ◌≢◌, ℕ, zero, suc, ◌+◌, ◌⊎◌, true, false, Option, List, [], ◌∷◌, ◌++◌, length, length-append, refl, sym, ap, subst, ◌∙◌, inl, inr, arith}
 use Rattle.der_base.specs.declared.rules.Rules.TheVariants.{Der}
 use Rattle.der_base.specs.Octets.{identifier}
-use Rattle.der_check.specs.Elements.{AreElements}
-use Rattle.der_walk.specs.Visits.{Visited}
-use Rattle.der_walk.proofs.OneVisit.{visits_same}
+use Rattle.der_elements.specs.Check.Elements.{AreElements}
+use Rattle.der_elements.specs.Visits.{Visited}
+use Rattle.der_elements.proofs.OneVisit.{visits_same}
 use Rattle.der_canon.specs.Same.{content_of, is_part, parts_of}
 use Rattle.der_canon.specs.Sizes.{Ends, HasSize, HasSizes, IsSizeOf, part_size, start_size, with_length, close, constructed, none, part, primitive, stay}
 

@@ -9,9 +9,9 @@ use Rattle.der_base.specs.declared.header.Class.TheVariants.{Universal, Applicat
 use Rattle.der_base.specs.Encoding.{element}
 use Rattle.der_base.specs.Octets.{identifier, leading_bits, shortest_length}
 use Rattle.der_base.proofs.Octets.Identifiers.{identifier_short}
-use Rattle.der_walk.specs.declared.element.Element.{Element}
-use Rattle.der_walk.specs.Visits.{Visited}
-use Rattle.der_walk.specs.Walked.{visited_of}
+use Rattle.der_elements.specs.declared.element.Element.{Element}
+use Rattle.der_elements.specs.Visits.{Visited}
+use Rattle.der_elements.specs.Walked.{visited_of}
 use Rattle.der_writer.specs.Octets.{cleared}
 use Rattle.der_canon.specs.declared.writer.Writer.{Writer}
 use Rattle.der_canon.specs.Contents.{start_of}

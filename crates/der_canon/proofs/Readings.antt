@@ -1,10 +1,10 @@
 -- One more element that has a form in DER, or has none.
 use Rattle.std.proofs.Common.{◌≡◌, ℕ, ◌<◌, false, Option, Some, None, List, [], ◌∷◌, ◌++◌, refl, sym, subst, ◌∙◌, inl, inr, arith}
 use Rattle.der_base.specs.declared.header.Class.TheVariants.{Universal}
-use Rattle.der_walk.specs.declared.cause.Cause.{Cause}
-use Rattle.der_walk.specs.declared.element.Element.{Element}
-use Rattle.der_walk.specs.Visits.{Visited}
-use Rattle.der_walk.specs.Walked.{visited_of}
+use Rattle.der_elements.specs.declared.cause.Cause.{Cause}
+use Rattle.der_elements.specs.declared.element.Element.{Element}
+use Rattle.der_elements.specs.Visits.{Visited}
+use Rattle.der_elements.specs.Walked.{visited_of}
 use Rattle.der_canon.specs.declared.piece.Parts.{Parts}
 use Rattle.der_canon.specs.Errors.{AreParts, IsNoPartAfter}
 use Rattle.der_canon.specs.NoDer.{HasDer, HasNoForm, IsNoPart, is_inside, string_after, string_from, string_of, unused_after, unused_from, unused_of, other, unused, part, value}

@@ -7,7 +7,7 @@ use Rattle.der_base.specs.declared.header.Class.{Class}
 use Rattle.der_base.specs.Encoding.{element}
 use Rattle.der_base.specs.Octets.{identifier, shortest_length}
 use Rattle.der_base.proofs.Octets.Numbers.{identifier_short_length, identifier_long_length}
-use Rattle.der_walk.specs.Visits.{Visited}
+use Rattle.der_elements.specs.Visits.{Visited}
 use Rattle.der_writer.specs.Octets.{cleared}
 use Rattle.der_canon.specs.Contents.{AreWritten, Completes, Contents, Writes, WritesAll, no_contents, sized, with_part_of}
 use Rattle.der_canon.specs.Contents.{stay, close, part, primitive, constructed}

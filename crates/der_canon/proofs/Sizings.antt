@@ -1,9 +1,9 @@
 -- One more piece that is counted.
 use Rattle.std.proofs.Common.{◌≡◌, ℕ, ◌+◌, ◌^◌, ◌≤◌, ◌⊎◌, Bool, true, false, Option, Some, None, List, [], ◌∷◌, ◌++◌, length, OnSome, is_some, refl, sym, ap, subst, ◌∙◌, inl, inr, arith}
 use Rattle.der_base.specs.Octets.{identifier}
-use Rattle.der_walk.specs.declared.element.Element.{Element}
-use Rattle.der_walk.specs.Visits.{Visited}
-use Rattle.der_walk.specs.Walked.{HasOctets, visited_of}
+use Rattle.der_elements.specs.declared.element.Element.{Element}
+use Rattle.der_elements.specs.Visits.{Visited}
+use Rattle.der_elements.specs.Walked.{HasOctets, visited_of}
 use Rattle.der_canon.specs.declared.piece.Parts.{Parts}
 use Rattle.der_canon.specs.declared.piece.Piece.{Piece}
 use Rattle.der_canon.specs.declared.piece.Pieces.{Pieces}

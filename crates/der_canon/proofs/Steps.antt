@@ -1,8 +1,8 @@
 -- Elements, and their contents in the input.
 use Rattle.std.specs.Borrow.{Bor}
 use Rattle.std.proofs.Common.{◌≡◌, ◌+◌, Bool, true, false, not, Some, List, ℕ, length, unwrap_or, refl, sym, ap, ◌∙◌}
-use Rattle.der_walk.specs.declared.element.Element.{Element}
-use Rattle.der_walk.specs.Walked.{HasOctets, between, visited_of}
+use Rattle.der_elements.specs.declared.element.Element.{Element}
+use Rattle.der_elements.specs.Walked.{HasOctets, between, visited_of}
 use Rattle.der_canon.specs.Same.{content_of}
 
 pub not_false : (b : Bool) → not b ≡ false → b ≡ true

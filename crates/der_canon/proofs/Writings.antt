@@ -6,11 +6,11 @@ use Rattle.der_base.specs.declared.header.Class.TheVariants.{Universal}
 use Rattle.der_contents.specs.ContentRules.{IsContent}
 use Rattle.der_base.specs.Encoding.{element}
 use Rattle.der_base.specs.Octets.{identifier}
-use Rattle.der_walk.specs.declared.element.Element.{Element}
-use Rattle.der_walk.specs.Visits.{Visited, Visits}
-use Rattle.der_walk.specs.declared.cause.Cause.TheVariants.{Value}
-use Rattle.der_walk.specs.declared.walk.Walk.{Walk}
-use Rattle.der_walk.specs.Walked.{HasOctets, HasVisited, visited_of}
+use Rattle.der_elements.specs.declared.element.Element.{Element}
+use Rattle.der_elements.specs.Visits.{Visited, Visits}
+use Rattle.der_elements.specs.declared.cause.Cause.TheVariants.{Value}
+use Rattle.der_elements.specs.declared.walk.Walk.{Walk}
+use Rattle.der_elements.specs.Walked.{HasOctets, HasVisited, visited_of}
 use Rattle.der_canon.specs.declared.error.NotCanonical.{NotCanonical}
 use Rattle.der_canon.specs.declared.piece.Parts.{Parts}
 use Rattle.der_canon.specs.declared.piece.Piece.{Piece}

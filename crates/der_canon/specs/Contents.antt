@@ -6,7 +6,7 @@ use Rattle.der_base.specs.Octets.{identifier, shortest_length}
 use Rattle.der_base.specs.declared.rules.Rules.TheVariants.{Ber, Der}
 use Rattle.der_base.specs.declared.header.Class.TheVariants.{Universal}
 use Rattle.der_contents.specs.ContentRules.{IsContent}
-use Rattle.der_walk.specs.Visits.{Visited, Visits}
+use Rattle.der_elements.specs.Visits.{Visited, Visits}
 use Rattle.der_canon.specs.Same.{content_of, is_in_parts, is_part, no_extras, parts_of, string_start, with_part}
 use Rattle.der_canon.specs.Values.{content_in_der, value_in_der}
 

@@ -5,15 +5,15 @@ use Rattle.std.specs.Option.{option_to_list}
 use Rattle.der_base.specs.declared.rules.Rules.TheVariants.{Ber}
 use Rattle.der_base.specs.declared.header.Class.TheVariants.{Universal}
 use Rattle.der_contents.specs.declared.content_error.ContentError.{ContentError}
-use Rattle.der_walk.specs.declared.cause.Cause.{Cause}
-use Rattle.der_walk.specs.declared.cause.Cause.TheVariants.{NotDer, OtherPart, UnusedBitsInside, Value}
-use Rattle.der_walk.specs.declared.element.Element.{Element}
-use Rattle.der_walk.specs.declared.path.Step.{Step}
-use Rattle.der_walk.specs.declared.refusal.Refusal.{Refusal}
-use Rattle.der_walk.specs.declared.walk.Walk.{Walk}
-use Rattle.der_walk.specs.Faults.{IsStep}
-use Rattle.der_walk.specs.Visits.{Visited, Visits}
-use Rattle.der_walk.specs.Walked.{HasOctets, HasVisited, IsRefused, index_in, steps_of, visited_of}
+use Rattle.der_elements.specs.declared.cause.Cause.{Cause}
+use Rattle.der_elements.specs.declared.cause.Cause.TheVariants.{NotDer, OtherPart, UnusedBitsInside, Value}
+use Rattle.der_elements.specs.declared.element.Element.{Element}
+use Rattle.der_elements.specs.declared.path.Step.{Step}
+use Rattle.der_elements.specs.declared.refusal.Refusal.{Refusal}
+use Rattle.der_elements.specs.declared.walk.Walk.{Walk}
+use Rattle.der_elements.specs.Faults.{IsStep}
+use Rattle.der_elements.specs.Visits.{Visited, Visits}
+use Rattle.der_elements.specs.Walked.{HasOctets, HasVisited, IsRefused, index_in, steps_of, visited_of}
 use Rattle.der_canon.specs.declared.error.CanonError.{CanonError}
 use Rattle.der_canon.specs.declared.error.CanonError.TheVariants as canon
 use Rattle.der_canon.specs.declared.error.NotCanonical.{NotCanonical}

@@ -7,10 +7,10 @@ use Rattle.der_base.specs.declared.rules.Rules.{Rules}
 use Rattle.der_base.specs.declared.rules.Rules.TheVariants.{Ber, Der}
 use Rattle.der_contents.specs.declared.content_error.ContentError.{ContentError}
 use Rattle.der_contents.specs.ContentRules.{IsContent, IsFirstBroken, content_rules}
-use Rattle.der_walk.specs.declared.cause.Cause.{Cause}
-use Rattle.der_walk.specs.declared.cause.Cause.TheVariants.{OtherPart, UnusedBitsInside, Value}
-use Rattle.der_check.specs.Elements.{AreElements}
-use Rattle.der_walk.specs.Visits.{Visited, Visits}
+use Rattle.der_elements.specs.declared.cause.Cause.{Cause}
+use Rattle.der_elements.specs.declared.cause.Cause.TheVariants.{OtherPart, UnusedBitsInside, Value}
+use Rattle.der_elements.specs.Check.Elements.{AreElements}
+use Rattle.der_elements.specs.Visits.{Visited, Visits}
 use Rattle.der_canon.specs.Same.{content_of, is_in_parts, no_extras, part_number}
 use Rattle.der_canon.specs.Values.{content_in_der}
 

@@ -4,9 +4,9 @@ use Rattle.std.specs.Prelude.{List, [], ◌∷◌, ◌++◌, Result, Ok, Err, �
 use Rattle.der_base.specs.declared.rules.Rules.TheVariants.{Ber, Der}
 use Rattle.der_base.specs.declared.header.Class.TheVariants.{Universal}
 use Rattle.der_contents.specs.ContentRules.{IsContent}
-use Rattle.der_walk.specs.declared.refusal.Refusal.{Refusal}
-use Rattle.der_walk.specs.Visits.{Visited, Visits}
-use Rattle.der_walk.specs.Walked.{HasOctets, HasVisited, visited_of}
+use Rattle.der_elements.specs.declared.refusal.Refusal.{Refusal}
+use Rattle.der_elements.specs.Visits.{Visited, Visits}
+use Rattle.der_elements.specs.Walked.{HasOctets, HasVisited, visited_of}
 use Rattle.der_canon.specs.declared.piece.Form.{Form}
 use Rattle.der_canon.specs.declared.piece.Form.TheVariants.{Part, Primitive}
 use Rattle.der_canon.specs.declared.piece.Parts.{Parts}

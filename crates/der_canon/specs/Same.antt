@@ -6,9 +6,9 @@ use Rattle.der_base.specs.declared.rules.Rules.TheVariants.{Ber, Der}
 use Rattle.der_base.specs.Encoding.{element}
 use Rattle.der_base.specs.Spelling.{end_marker}
 use Rattle.der_base.specs.Text.{is_one_of, is_within}
-use Rattle.der_check.specs.Elements.{MayBeConstructed, MayHaveContent}
-use Rattle.der_walk.specs.Visits.{Extras, IsHeaderBy, Visited}
-use Rattle.der_walk.specs.Walked.{between}
+use Rattle.der_elements.specs.Check.Elements.{MayBeConstructed, MayHaveContent}
+use Rattle.der_elements.specs.Visits.{Extras, IsHeaderBy, Visited}
+use Rattle.der_elements.specs.Walked.{between}
 use Rattle.der_writer.specs.Octets.{cleared}
 use Rattle.der_canon.specs.Values.{is_universal, value_in_der}
 

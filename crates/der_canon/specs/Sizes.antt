@@ -3,8 +3,8 @@ use Rattle.std.specs.Prelude.{◌≡◌, ℕ, ◌+◌, ◌-◌, ◌≤◌, Bool,
 use Rattle.std.specs.Prelude.{Option, None, List, [], ◌∷◌, ◌++◌, length}
 use Rattle.der_base.specs.Octets.{identifier, shortest_length}
 use Rattle.der_base.specs.declared.rules.Rules.TheVariants.{Ber, Der}
-use Rattle.der_check.specs.Elements.{AreElements}
-use Rattle.der_walk.specs.Visits.{Visited, Visits}
+use Rattle.der_elements.specs.Check.Elements.{AreElements}
+use Rattle.der_elements.specs.Visits.{Visited, Visits}
 use Rattle.der_canon.specs.NoDer.{HasForm}
 use Rattle.der_canon.specs.Same.{content_of, is_in_parts, is_part, parts_of, no_extras}
 

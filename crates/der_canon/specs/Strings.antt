@@ -4,9 +4,9 @@ use Rattle.std.specs.List.{All}
 use Rattle.der_base.specs.declared.rules.Rules.TheVariants.{Ber, Der}
 use Rattle.der_contents.specs.declared.content_error.ContentError.{ContentError}
 use Rattle.der_contents.specs.ContentRules.{IsContent, IsFirstBroken, content_rules}
-use Rattle.der_walk.specs.declared.walk.Walk.{Walk}
-use Rattle.der_walk.specs.Visits.{Visited, Visits}
-use Rattle.der_walk.specs.Walked.{HasVisited}
+use Rattle.der_elements.specs.declared.walk.Walk.{Walk}
+use Rattle.der_elements.specs.Visits.{Visited, Visits}
+use Rattle.der_elements.specs.Walked.{HasVisited}
 use Rattle.der_canon.specs.declared.strings.Broken.{Broken}
 use Rattle.der_canon.specs.declared.strings.InParts.{InParts}
 use Rattle.der_canon.specs.declared.writer.Writer.{Writer}

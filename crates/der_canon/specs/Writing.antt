@@ -3,8 +3,8 @@ use Rattle.std.specs.Borrow.{Bor}
 use Rattle.std.specs.Prelude.{◌≡◌, ℕ, ◌<◌, ◌≤◌, ◌⊎◌, true, false, not, Some, List, [], ◌∷◌, ◌++◌, length, take}
 use Rattle.der_base.specs.Encoding.{element}
 use Rattle.der_base.specs.Octets.{identifier}
-use Rattle.der_walk.specs.declared.element.Element.{Element}
-use Rattle.der_walk.specs.Walked.{visited_of}
+use Rattle.der_elements.specs.declared.element.Element.{Element}
+use Rattle.der_elements.specs.Walked.{visited_of}
 use Rattle.der_canon.specs.declared.piece.Piece.{Piece}
 use Rattle.der_canon.specs.declared.writer.Writer.{Writer}
 pub use Rattle.der_canon.specs.Contents.{all_octets}

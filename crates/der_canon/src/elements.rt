@@ -1,6 +1,6 @@
-//! The public calls.
+//! The public calls: the size and the octets of elements as DER writes them.
 ghost use Rattle.std.specs.Prelude.{◌≡◌, ◌≤◌, length, take, IfErr, IfOk, MatchOption, OnOk};
-ghost use Rattle.der_check.specs.Elements.{AreElements};
+ghost use Rattle.der_elements.specs.Check.Elements.{AreElements};
 ghost use Rattle.der_base.specs.declared.rules.Rules.{Rules};
 ghost use Rattle.der_canon.specs.NoDer.{AllHaveDer};
 ghost use Rattle.der_canon.specs.Same.{AreInDer};
@@ -14,27 +14,32 @@ use crate::piece::refuse_all;
 use crate::size::size_of;
 use crate::writer::write_pieces;
 use der_base::rules::Rules;
-use der_check::are_elements;
-use der_walk::{MAX_DEPTH, Walk};
+use der_elements::check::are_elements;
+use der_elements::{MAX_DEPTH, Walk};
 use std::alloc::Global;
 
-/// Writes elements that are read by BER as DER writes them, to a buffer: lengths in the fewest octets (X.690 10.1),
-/// strings primitive (10.2), BOOLEANs as 00 or ff (11.1), unused bits as 0 (11.2.1). The order of a SET OF, default
-/// values and the types of elements of other classes aren't known here, so they stay as they are. Other values that DER
-/// doesn't have, as a time without seconds, are refused.
+/// Writes elements of BER into a buffer as DER: lengths in the fewest octets (X.690 10.1), strings primitive (10.2),
+/// BOOLEANs as 00 or ff (11.1), unused bits as 0 (11.2.1). The order of a SET OF, default values and the contents of
+/// primitive elements of other classes stay as they are, since their types aren't known. Other values that DER doesn't
+/// have, such as a time without seconds, are rejected.
 ///
-/// Returns how many octets there are, room or not. If the buffer has room for them, it begins with them, and they are
-/// elements of DER: those of the input, each with its class, number and value, and strings in parts as one. If it has
-/// less, call again with so many: what it holds then isn't said, nor whether a string in parts is refused. Elements
-/// that are DER already are copied. It takes no memory, and the buffer keeps what follows them.
+/// Returns the size of the DER encoding, whatever the capacity. If the buffer is large enough, the encoding has been
+/// written to its start, and the rest of the buffer is unchanged. Each element keeps its class, number and value; the
+/// parts of a constructed string are joined. Elements that are DER already are copied. It takes no memory.
 ///
-/// An error is the first fault of the input, with its offset and its path: where it isn't elements of BER, or its first
-/// element that DER has no form of. These have the causes `OtherPart` and `UnusedBitsInside`, for a part of another
-/// type or after unused bits (8.6.4, 8.7.3), and `Value`, for a content that breaks a rule of DER as it would be
-/// written: a time without Z or seconds (11.7, 11.8), a REAL in another form than that of 11.3. The content of a string
-/// in parts is looked at after all these: the cause is `Value` too, and the offset that of the string. Where DER has
-/// more octets than a usize counts, the cause is `NotDer` and the offset 0: only an input of 2^60 octets or more can
-/// have so many.
+/// If the buffer is too small, call again with that size. The buffer's contents are unspecified then, and so is whether
+/// a constructed string is rejected.
+///
+/// An error has the offset and the path of the first fault: the input isn't elements of BER there, or DER has no form
+/// of the element. The causes of an element without a form are:
+/// - `OtherPart` for a part of another type (8.6.4, 8.7.3);
+/// - `UnusedBitsInside` for a part after unused bits (8.6.4);
+/// - `Value` for a content that breaks a rule of DER: a time without Z or seconds (11.7, 11.8), a REAL in another form
+///   than that of 11.3.
+///
+/// The joined content of a constructed string is checked after all these. Its error is `Value`, at the offset of the
+/// string. If the encoding has more octets than a usize counts, the cause is `NotDer` and the offset 0. Only an input
+/// of 2^60 octets or more can have so many.
 ///
 /// ```
 /// let mut out = [0; 8];
@@ -77,12 +82,12 @@ fn write_others(octets: &[u8], out: &mut [u8]) -> Result<usize, NotCanonical>
     }
 }
 
-/// Writes elements as `canonical_into` does, to a vector that has room for them. OutOfMemory if there is none.
+/// Writes elements as `canonical_into` does, to a new vector. OutOfMemory if there is no memory for it.
 pub fn canonical(alloc: Global, octets: &[u8]) -> Result<Vec<u8>, CanonError>
     ensures written { IfOk result (λ v. IsDerOf octets.now v.items) }
     ensures error { IfErr result (IsCanonErrorOf octets.now) }
 {
-    // They are seldom more octets than before.
+    // The encoding is seldom larger than the input.
     if let Some(written) = write_within(alloc, octets, octets.len())? {
         return Ok(written);
     }
@@ -90,12 +95,12 @@ pub fn canonical(alloc: Global, octets: &[u8]) -> Result<Vec<u8>, CanonError>
     let needed = canonical_into(octets, none)?;
     match write_within(alloc, octets, needed)? {
         Some(written) => Ok(written),
-        // The same octets need the same room.
+        // The same octets need the same capacity.
         None => Err(CanonError::NotCanonical(refuse_all(&Walk::new(&[], Rules::Der, false)))),
     }
 }
 
-/// Writes elements to a vector of so many octets. None if they need more.
+/// Writes elements to a vector of `room` octets. None if they need more.
 fn write_within(alloc: Global, octets: &[u8], room: usize) -> Result<Option<Vec<u8>>, CanonError>
     ensures written { IfOk result (λ o. MatchOption o (NeedsMore octets.now room) (λ v. IsDerOf octets.now v.items)) }
     ensures error { IfErr result (IsCanonErrorOf octets.now) }

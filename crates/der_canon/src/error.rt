@@ -2,15 +2,15 @@
 ghost use Rattle.std.specs.Prelude.{◌≡◌};
 ghost use Rattle.der_canon.specs.declared.error.CanonError.TheVariants.{NotCanonical, OutOfMemory};
 
-use der_walk::{Cause, Path};
+use der_elements::{Cause, Path};
 use std::alloc::{AllocError, AllocFailed};
 
-/// Where and why elements have no encoding by DER: the input isn't BER, or has a value that DER doesn't have.
+/// Where and why elements have no DER encoding: the input isn't BER, or has a value that DER doesn't have.
 #[derive(Drop)]
 pub struct NotCanonical {
     /// Where the element begins, in octets from the start of the input.
     pub offset: usize,
-    /// The path to it.
+    /// The path to the element.
     pub path: Path,
     pub cause: Cause,
 }
@@ -18,7 +18,7 @@ pub struct NotCanonical {
 /// Why elements aren't written to a vector.
 #[derive(Drop)]
 pub enum CanonError {
-    /// They have no encoding by DER.
+    /// They have no DER encoding.
     NotCanonical(NotCanonical),
     /// There was no memory.
     OutOfMemory,

@@ -1,7 +1,7 @@
 //! Laws of what is written. Each function has a law as its contract and an empty body.
 ghost use Rattle.der_canon.specs.Laws.{SizesOnce};
 
-/// DER has one number of octets for the elements of an input.
+/// The elements of an input have one number of octets in DER.
 pub fn sizes_once()
     ensures { SizesOnce }
 {}

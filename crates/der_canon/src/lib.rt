@@ -1,5 +1,5 @@
 //! Elements written as DER writes them (X.690 10 and 11), as far as that doesn't depend on their types. It takes no
-//! memory: what is written goes to a buffer of the caller's.
+//! memory: the caller's buffer gets the octets.
 #![tactic(auto)]
 
 mod content;

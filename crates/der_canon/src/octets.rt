@@ -1,12 +1,12 @@
-//! Octets in a buffer, which are written if there is room.
+//! Octets in a buffer, which are written if the capacity allows.
 ghost use Rattle.std.specs.Prelude.{◌≡◌, ◌+◌, ◌≤◌, ◌++◌, drop, length, take};
 ghost use Rattle.der_base.specs.Octets.{shortest_length};
-ghost use Rattle.der_nodes.specs.Places.{overlay};
+ghost use Rattle.der_elements.specs.Check.Overlay.{overlay};
 ghost use Rattle.der_writer.specs.Written.{FillsTo};
 
-use der_octets::header::write_length;
+use der_values::octets::header::write_length;
 
-/// How many octets a length has at most.
+/// The most octets of a length.
 pub(crate) const LENGTH_OCTETS: usize = 9;
 
 /// Writes octets at the start of a buffer.
@@ -27,7 +27,7 @@ pub(crate) fn put_octets(out: &mut [u8], begin: usize, end: usize, octets: &[u8]
     }
 }
 
-/// Writes a length from an offset on, in place of one octet, and moves the content after that up to the end.
+/// Writes a length from an offset on, in place of one octet, and moves the content after it up to `end`.
 pub(crate) fn wrap(out: &mut [u8], begin: usize, end: usize, content_size: usize)
     requires { end ≤ length out.old → begin + length (shortest_length content_size) + content_size ≡ end }
     ensures { FillsTo end out.old out.new begin
@@ -40,7 +40,7 @@ pub(crate) fn wrap(out: &mut [u8], begin: usize, end: usize, content_size: usize
     }
 }
 
-/// Moves so many octets up to another offset, if that is higher.
+/// Moves `count` octets up to another offset, if that is higher.
 #[tactic(auto, using(der_writer::proofs::Moves::behind_stays))]
 fn move_up(out: &mut [u8], from: usize, to: usize, count: usize)
     requires up { from ≤ to }

@@ -1,8 +1,8 @@
 //! The elements of an input, as they are to be written.
 ghost use Rattle.std.specs.Prelude.{◌≡◌, ◌&&◌, ◌==◌, ℕ, Option, None, List, [], false, true, IfOk, MatchResult};
 ghost use Rattle.der_base.specs.declared.rules.Rules.{Rules};
-ghost use Rattle.der_walk.specs.Visits.{Visited};
-ghost use Rattle.der_walk.specs.Walked.{HasOctets, HasVisited, visited_of};
+ghost use Rattle.der_elements.specs.Visits.{Visited};
+ghost use Rattle.der_elements.specs.Walked.{HasOctets, HasVisited, visited_of};
 ghost use Rattle.der_canon.specs.Errors.{AreParts, FindsForm, FindsPart, HasRead, IsNoPartAfter, IsPartAfter};
 ghost use Rattle.der_canon.specs.Errors.{IsAll, IsStepTo, IsToldOf, ReadsOn};
 ghost use Rattle.der_canon.specs.NoDer.{string_after, unused_after, unused_of};
@@ -14,7 +14,7 @@ use crate::value::check_value;
 use der_base::header::{Class, Tag};
 use der_base::rules::Rules;
 use der_base::text::is_text_type;
-use der_walk::{Cause, Element, Refusal, Walk};
+use der_elements::{Cause, Element, Refusal, Walk};
 
 /// How an element is written.
 #[derive(Clone, Copy, Debug, PartialEq)]
@@ -25,7 +25,7 @@ pub(crate) enum Form {
     Constructed,
     /// As a primitive element, whose content is that of the parts of a constructed string (X.690 8.6.4, 8.7.3).
     Joined,
-    /// As its content alone: it is a part of a string.
+    /// As a part of a string, without a header.
     Part,
 }
 
@@ -37,7 +37,7 @@ pub(crate) struct Piece<'a> {
 }
 
 impl Piece<'_> {
-    /// Whether a header of its own is written.
+    /// Whether its header is written.
     pub(crate) fn has_header(&self) -> bool
         ensures { result ≡ has_header self.now.form }
     {
@@ -116,7 +116,7 @@ pub(crate) fn refuse(walk: &Walk<'_>, refusal: &Refusal) -> NotCanonical
     }
 }
 
-/// Refuses all elements, with no offset.
+/// Rejects all elements, at offset 0.
 pub(crate) fn refuse_all(walk: &Walk<'_>) -> NotCanonical
     ensures { IsAll result }
 {
@@ -128,7 +128,7 @@ pub(crate) fn refuse_all(walk: &Walk<'_>) -> NotCanonical
     refuse(walk, &refusal)
 }
 
-/// The form of an element after others, and the string whose parts follow it. An error if DER has none.
+/// The form of an element, and the constructed string whose parts may follow it. An error if DER has no form of it.
 fn form_in_der(element: &Element<'_>, parts: Option<Parts>) -> Result<(Form, Option<Parts>), Cause>
     ensures form { IfOk result (λ x. IsForm parts (visited_of element.now) x.0 x.1) }
     ensures kept { (i : List ℕ) → HasOctets i element.now
@@ -146,7 +146,7 @@ fn form_in_der(element: &Element<'_>, parts: Option<Parts>) -> Result<(Form, Opt
     }
 }
 
-/// The form of an element after others, and the string whose parts follow it.
+/// The form of an element, and the constructed string whose parts may follow it.
 fn form_of(element: &Element<'_>, parts: Option<Parts>) -> Result<(Form, Option<Parts>), Cause>
     ensures form { IfOk result (λ x. IsForm parts (visited_of element.now) x.0 x.1) }
     ensures part { (i : List ℕ) (s : Option Visited) (u : ℕ) → HasOctets i element.now → AreParts parts s u
@@ -199,14 +199,14 @@ fn unused_in(element: &Element<'_>) -> u8
     }
 }
 
-/// Whether an element is a string in parts.
+/// Whether an element is a constructed string.
 pub(crate) fn is_in_parts(element: &Element<'_>) -> bool
     ensures { result ≡ is_in_parts (visited_of element.now) }
 {
     element.constructed && element.class == Class::Universal && is_string(element.number)
 }
 
-/// Whether an element is a BIT STRING in parts.
+/// Whether an element is a constructed BIT STRING.
 pub(crate) fn is_bits_in_parts(element: &Element<'_>) -> bool
     ensures { result ≡ (is_in_parts (visited_of element.now) && (element.now.number == 3)) }
 {
@@ -220,7 +220,7 @@ fn is_string(number: u32) -> bool
     is_text_type(Tag(number)) || matches!(number, 3 | 4 | 23 | 24 | 28 | 30)
 }
 
-/// Refuses an element that was read. A constructed one is open, so it is in the path already.
+/// The error of an element that was read. A constructed one is open, so it is in the path already.
 fn refuse_element(element: &Element<'_>, cause: Cause) -> Refusal
     ensures told { (result.offset ≡ element.now.offset) × (result.cause ≡ cause) }
     ensures step { IsStepTo (visited_of element.now) element.now.index result.step }

@@ -5,19 +5,19 @@ ghost use Rattle.der_canon.specs.Errors.{IsAll, IsErrorOf};
 ghost use Rattle.der_canon.specs.NoDer.{AllHaveDer};
 ghost use Rattle.der_canon.specs.Sizes.{Ends, HasSize, part_size, start_size, with_length};
 ghost use Rattle.der_canon.specs.Sizing.{AddsElement, AddsPart, AddsPiece, ComesTo, IsFound, cost, most};
-ghost use Rattle.der_walk.specs.Walked.{visited_of};
+ghost use Rattle.der_elements.specs.Walked.{visited_of};
 
 use crate::error::NotCanonical;
 use crate::piece::{Piece, Pieces, is_bits_in_parts, refuse_all};
 use arrayvec::ArrayVec;
 use der_base::rules::Rules;
-use der_octets::header::length_octet_count;
-use der_walk::{Element, MAX_DEPTH, Walk};
+use der_elements::{Element, MAX_DEPTH, Walk};
+use der_values::octets::header::length_octet_count;
 
-/// How many elements are open at most: one at each depth.
+/// The most elements that are open: one at each depth.
 const DEPTHS: usize = MAX_DEPTH + 1;
 
-/// How many octets DER has for the elements of an input.
+/// How many octets the elements of an input have in DER.
 pub(crate) fn size_of(octets: &[u8]) -> Result<usize, NotCanonical>
     ensures size { IfOk result (HasSize octets.now) }
     ensures have { OnOk result (AllHaveDer octets.now) }
@@ -45,19 +45,19 @@ pub(crate) fn size_of(octets: &[u8]) -> Result<usize, NotCanonical>
     Err(too_large())
 }
 
-/// Refuses elements that have more octets in DER than a usize counts.
+/// The error of elements that have more octets in DER than a usize counts.
 fn too_large() -> NotCanonical
     ensures { IsAll result }
 {
     refuse_all(&Walk::new(&[], Rules::Der, false))
 }
 
-/// How many octets the contents have that go on, as far as their elements were read.
+/// How many octets the contents have that are still open, as far as their elements were read.
 #[derive(Drop)]
 struct Sizes {
-    /// Those around the innermost, the outermost first.
+    /// The contents around the innermost, the outermost first.
     around: ArrayVec<usize, DEPTHS>,
-    /// The innermost.
+    /// The innermost content.
     here: usize,
 }
 
@@ -124,7 +124,7 @@ impl Sizes {
         self.grow(part_size(element.number, element.content?))
     }
 
-    /// Ends the contents that have more others around them than this depth.
+    /// Ends the contents that are deeper than this depth.
     fn end(&mut self, depth: usize) -> Option<()>
         ensures ends { OnSome result
             (Ends depth self.old.around.items self.old.here self.new.around.items self.new.here) }
@@ -148,7 +148,7 @@ impl Sizes {
         Some(())
     }
 
-    /// Begins a content inside the innermost, with so many octets.
+    /// Begins a content inside the innermost, which has this many octets so far.
     fn begin(&mut self, octets: usize)
         requires { length self.old.around.items ≤ 100 }
         ensures around { self.new.around.items ≡ self.old.around.items ++ self.old.here ∷ [] }
@@ -167,7 +167,7 @@ fn with_length(content: usize) -> Option<usize>
     length_octet_count(content).checked_add(content)
 }
 
-/// How many octets a string in parts has before those of its parts: the one of a BIT STRING for its unused bits.
+/// How many octets a constructed string has before those of its parts: one for the unused bits of a BIT STRING.
 fn start_size(element: &Element<'_>) -> usize
     ensures size { result ≡ start_size (visited_of element.now) }
     ensures most { result ≤ 1 }

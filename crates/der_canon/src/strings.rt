@@ -1,17 +1,17 @@
-//! Strings in parts. Where one ends, its content is checked, as it was written.
+//! Constructed strings. When one ends, its content is checked as it was written.
 ghost use Rattle.std.specs.Prelude.{◌≡◌, IfErr, OnOk};
 ghost use Rattle.der_base.specs.declared.rules.Rules.{Rules};
 ghost use Rattle.der_contents.specs.ContentRules.{IsContent, IsFirstBroken, content_rules};
 ghost use Rattle.der_canon.specs.Strings.{IsBrokenIn, IsKeptIn, IsStringIn};
-ghost use Rattle.der_walk.specs.declared.cause.Cause.TheVariants.{Value};
-ghost use Rattle.der_walk.specs.Walked.{visited_of};
+ghost use Rattle.der_elements.specs.declared.cause.Cause.TheVariants.{Value};
+ghost use Rattle.der_elements.specs.Walked.{visited_of};
 
 use crate::error::NotCanonical;
 use crate::piece::{is_in_parts, refuse};
 use crate::writer::Writer;
 use der_base::rules::Rules;
 use der_contents::{ContentError, check_content};
-use der_walk::{Cause, Element, Refusal, Walk};
+use der_elements::{Cause, Element, Refusal, Walk};
 
 /// A string of which more parts may follow.
 #[derive(Clone, Copy)]
@@ -22,14 +22,14 @@ pub(crate) struct InParts {
     number: u32,
 }
 
-/// A string in parts whose content breaks a rule of its type.
+/// A constructed string whose content breaks a rule of its type.
 #[derive(Clone, Copy)]
 pub(crate) struct Broken {
     offset: usize,
     error: ContentError,
 }
 
-/// The string that an element begins, if it is one in parts.
+/// The string that an element begins, if it is a constructed string.
 pub(crate) fn string_in(element: &Element<'_>) -> Option<InParts>
     ensures { IsStringIn (visited_of element.now) result }
 {
@@ -75,7 +75,7 @@ fn check_content_of(string: InParts, content: &[u8]) -> Result<(), Broken>
     }
 }
 
-/// Refuses a string.
+/// The error of a string.
 pub(crate) fn refuse_string(octets: &[u8], broken: Broken) -> NotCanonical
     ensures offset { result.offset ≡ broken.offset }
     ensures cause { result.cause ≡ Value broken.error }
@@ -88,7 +88,7 @@ pub(crate) fn refuse_string(octets: &[u8], broken: Broken) -> NotCanonical
     refuse(&walk_to(octets, broken.offset), &refusal)
 }
 
-/// A walk through an input that has come to the element at an offset.
+/// A walk that has come to the element at an offset.
 fn walk_to(octets: &[u8], offset: usize) -> Walk<'_> {
     let mut walk = Walk::new(octets, Rules::Ber, false);
     // An element has an octet at least, so the loop ends at the end of the input.

@@ -1,13 +1,13 @@
 //! Values of BER that DER has no form of.
 ghost use Rattle.std.specs.Prelude.{◌≡◌, ℕ, List, false};
-ghost use Rattle.der_walk.specs.Walked.{HasOctets, visited_of};
+ghost use Rattle.der_elements.specs.Walked.{HasOctets, visited_of};
 ghost use Rattle.der_canon.specs.NoDer.{ChecksForm, ChecksValue, rules_of};
 ghost use Rattle.der_canon.specs.Same.{content_of};
 
 use der_base::header::Class;
 use der_base::rules::Rules;
 use der_contents::check_content;
-use der_walk::{Cause, Element};
+use der_elements::{Cause, Element};
 
 /// Checks that DER has a form of a primitive element of BER that is no part of a string.
 pub(crate) fn check_value(element: &Element<'_>) -> Result<(), Cause>
@@ -30,8 +30,8 @@ fn check_form(number: u32, content: &[u8]) -> Result<(), Cause>
     }
 }
 
-/// The rules that a content has to keep before it is written. A BOOLEAN and the unused bits of a BIT STRING are written
-/// as DER has them.
+/// The rules that a content has to keep before it is written. DER's form of a BOOLEAN and of unused bits is made when
+/// they are written.
 fn rules_of(number: u32) -> Rules
     ensures { result ≡ rules_of number }
 {

@@ -1,5 +1,5 @@
-//! Writing from the first octet to the last. How long a content is shows at its end. Then its length is written in
-//! front of it, and the content moves up if the length has more than one octet.
+//! Writing from the first octet to the last. The length of a content is known at its end. Then it is written before the
+//! content, which moves up if the length has more than one octet.
 ghost use Rattle.std.specs.Prelude.{◌≡◌, ◌^◌, ◌<◌, ◌≤◌, ◌++◌, ◌∷◌, ℕ, List, [], IfErr, IfOk, MatchOption};
 ghost use Rattle.std.specs.Prelude.{OnOk, false, length, not, true};
 ghost use Rattle.der_base.specs.Octets.{identifier, shortest_length};
@@ -12,7 +12,7 @@ ghost use Rattle.der_canon.specs.Strings.{IsBrokenIn, IsKeptIn, IsStringIn};
 ghost use Rattle.der_canon.specs.Values.{bits_in_der, boolean_in_der, value_in_der};
 ghost use Rattle.der_canon.specs.Writing.{HasCompleted, HasStarts, HasWritten, Puts, PutsElement, PutsLength};
 ghost use Rattle.der_canon.specs.Writing.{PutsPart, PutsPiece, WritesInput, all_octets};
-ghost use Rattle.der_walk.specs.Walked.{visited_of};
+ghost use Rattle.der_elements.specs.Walked.{visited_of};
 ghost use Rattle.der_writer.specs.Octets.{cleared};
 
 use crate::content::{boolean, without_unused};
@@ -23,13 +23,13 @@ use crate::strings::{Broken, InParts, check_string, refuse_string, string_in};
 use arrayvec::ArrayVec;
 use der_base::header::Class;
 use der_base::rules::Rules;
-use der_octets::header::length_octet_count;
-use der_walk::{Element, MAX_DEPTH, Walk};
+use der_elements::{Element, MAX_DEPTH, Walk};
+use der_values::octets::header::length_octet_count;
 
-/// How many elements are open at most: one at each depth.
+/// The most elements that are open: one at each depth.
 const DEPTHS: usize = MAX_DEPTH + 1;
 
-/// Writes the elements of an input as far as there is room.
+/// Writes the elements of an input as far as the capacity allows.
 pub(crate) fn write_pieces(octets: &[u8], out: &mut [u8]) -> Result<(), NotCanonical>
     ensures size { length out.new ≡ length out.old }
     ensures written { OnOk result (WritesInput octets.now out.new) }
@@ -65,8 +65,8 @@ pub(crate) fn write_pieces(octets: &[u8], out: &mut [u8]) -> Result<(), NotCanon
     Err(refuse_all(&Walk::new(&[], Rules::Der, false)))
 }
 
-/// The string whose parts may follow a piece. An error if the piece isn't a part of the string before it, and that is
-/// broken.
+/// The string whose parts may follow a piece. If the piece isn't a part of the string before it, that string has ended:
+/// an error if it is broken.
 fn string_after(
     piece: &Piece<'_>,
     string: Option<InParts>,
@@ -90,9 +90,9 @@ fn string_after(
 /// How far elements are written.
 #[derive(Drop)]
 pub(crate) struct Writer {
-    /// How many octets there are, room or not.
+    /// How many octets there are, whatever the capacity.
     end: usize,
-    /// Where the length of each element is written that goes on, from the outermost to the innermost.
+    /// Where the length of each open element is, from the outermost to the innermost.
     starts: ArrayVec<usize, DEPTHS>,
 }
 
@@ -153,7 +153,7 @@ impl Writer {
         }
     }
 
-    /// Completes the elements that have as many others around them, or more.
+    /// Completes the elements at this depth or deeper.
     fn complete(&mut self, out: &mut [u8], depth: usize)
         ensures size { length out.new ≡ length out.old }
         ensures few { length self.new.starts.items ≤ depth }
@@ -168,8 +168,8 @@ impl Writer {
         }
     }
 
-    /// Makes all since an offset the content of one element: its length is written there, in place of the octet that
-    /// is reserved for it.
+    /// Makes everything from an offset on the content of one element. Its length replaces the octet that is reserved
+    /// there.
     fn end_content(&mut self, out: &mut [u8], start: usize)
         ensures { PutsLength start self.old out.old self.new out.new }
     {
@@ -183,7 +183,7 @@ impl Writer {
         self.end = end;
     }
 
-    /// Begins a constructed element, and an octet is reserved for its length. A string in parts is written as a
+    /// Begins a constructed element, and reserves an octet for its length. A constructed string is written as a
     /// primitive element.
     fn begin(&mut self, out: &mut [u8], element: &Element<'_>)
         requires found { IsFound element.now }
@@ -240,7 +240,7 @@ impl Writer {
         }
     }
 
-    /// Writes the bits of one more part of a BIT STRING, which says how many are unused.
+    /// Writes the bits of one more part of a BIT STRING, and its number of unused bits.
     fn put_bits_after(&mut self, out: &mut [u8], content: &[u8])
         ensures size { length out.new ≡ length out.old }
         ensures bits { (xs : List (List ℕ)) (x : List ℕ) → HasWritten xs x self.old out.old
@@ -252,7 +252,7 @@ impl Writer {
         }
     }
 
-    /// Writes the first octet of the innermost content, if it has one.
+    /// Sets the first octet of the innermost content, if it has one.
     fn set_first(&mut self, out: &mut [u8], octet: u8)
         ensures size { length out.new ≡ length out.old }
         ensures first { (xs : List (List ℕ)) (x : List ℕ) → HasWritten xs x self.old out.old
@@ -275,7 +275,7 @@ impl Writer {
         }
     }
 
-    /// What is written of the innermost content, if there is room.
+    /// The innermost content as written so far, if the buffer was large enough.
     pub(crate) fn innermost<'o>(&self, out: &'o [u8]) -> Option<&'o [u8]>
         ensures { MatchOption result
             ((xs : List (List ℕ)) (x : List ℕ) → HasWritten xs x self.now out.now

@@ -42,7 +42,7 @@ shorter {j = j} {label = label} {lines = lines} {rest = rest} b =
       behind label last,
       behind (codes "-----END ") (label ++ last),
       behind lines end,
-      ap length b.end.whole,
+      ap length b.end.split.whole,
       behind (codes "-----") b.opened,
       behind label (codes "-----" ++ b.opened),
       ap length b.begin.2.whole,

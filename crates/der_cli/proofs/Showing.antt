@@ -4,7 +4,7 @@ use Rattle.std.proofs.KnownBytes.{Appends-kept, Keeps-trans}
 use Rattle.std.specs.Io.KnownBytes.{Appends, Keeps}
 use Rattle.der_show.specs.declared.unread.Unread.{Unread}
 use Rattle.der_show.specs.declared.words.Words.{Words}
-use Rattle.show_json.specs.declared.object.Source.{Source}
+use Rattle.text_json.specs.declared.shown.object.Source.{Source}
 use Rattle.der_actions.specs.declared.options.Options.{Options}
 use Rattle.der_cli.specs.Shown.{AddsError, AddsFoundFrom, AddsText, AddsWordsFrom, words_object}
 

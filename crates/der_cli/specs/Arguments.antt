@@ -1,4 +1,4 @@
--- The words of arguments and of what is printed.
+-- The words of arguments and of the output.
 use Rattle.std.specs.Prelude.{ℕ, List, codes}
 use Rattle.der_input.specs.declared.form.Form.{Form}
 use Rattle.der_input.specs.declared.form.Form.TheVariants.{Der, Pem, Hex, Base64}

@@ -1,4 +1,4 @@
--- What is read from an input, and what is written of it.
+-- The reading of an input, and the output for it.
 use Rattle.std.specs.Prelude.{◌≡◌, ◌≢◌, ◌<◌, ℕ, suc, Option, Some, None, List, Ok, IsErr}
 use Rattle.base64.specs.Engines.{standard_pad_indifferent}
 use Rattle.base64.specs.GeneralPurpose.{decode_of as base64_decode_of}
@@ -12,19 +12,19 @@ use Rattle.der_input.specs.Plain.{characters_of, digits_of}
 use Rattle.der_actions.specs.declared.options.Options.{Options}
 use Rattle.der_cli.specs.Outputs.{IsRefusedBy, RefusesFile, WritesFile, WritesHeading, WritesInside}
 
--- how an input is written: as is asked for, or as a look at it finds
+-- the form of an input: the given one, or else the one that is detected
 abbrev pub IsFormOf : Option Form → List ℕ → Form → Type 0
 IsFormOf (Some asked) i form = asked ≡ form
 IsFormOf None i form = FindsForm i form
 
--- the octets that an input is, in a form that has no blocks
+-- the octets that an input encodes, in a form that has no blocks
 abbrev pub Spells : Form → List ℕ → List ℕ → Type 0
 Spells Der i w = w ≡ i
 Spells Hex i w = hex_decode_of (digits_of i) ≡ Ok w
 Spells Base64 i w = base64_decode_of standard_pad_indifferent (characters_of i) ≡ Ok w
 Spells Pem i w = ⊥
 
--- a block with these lines is read, and this is written of it
+-- a block with these lines is accepted, with this output
 pub record ReadsBlock (o : Options) (name label lines : List ℕ) (old new : Option (List ℕ)) : Type 0 where
   pub octets : List ℕ
   pub readable : ¬ IsEncrypted lines
@@ -33,41 +33,41 @@ pub record ReadsBlock (o : Options) (name label lines : List ℕ) (old new : Opt
   pub heading : WritesHeading o name label old between
   pub writes : WritesInside o.action o label octets between new
 
--- the n blocks of a text are read, in their order
+-- the n blocks of a text are accepted, in order
 pub data ReadsBlocks (o : Options) (name : List ℕ) : ℕ → List ℕ → Option (List ℕ) → Option (List ℕ) → Type 0 where
   no_block : {i : List ℕ} {old : Option (List ℕ)} → HasNoBlock i → ReadsBlocks o name 0 i old old
   one_more : {n : ℕ} {i : List ℕ} {old new : Option (List ℕ)} (label lines rest : List ℕ) (between : Option (List ℕ))
       → BeginsWithBlock i label lines rest → ReadsBlock o name label lines old between
       → ReadsBlocks o name n rest between new → ReadsBlocks o name (suc n) i old new
 
--- An input is read to its end, and this is written of it: of its octets, or of each of its blocks, one at least.
+-- An input is accepted to its end, with this output: for its octets, or for each of its blocks, at least one.
 pub data ReadsInput (o : Options) (name i : List ℕ) (old new : Option (List ℕ)) : Type 0 where
   octets : (form : Form) (w : List ℕ) → IsFormOf o.form i form → Spells form i w → WritesFile o name w old new
       → ReadsInput o name i old new
   blocks : (n : ℕ) → IsFormOf o.form i Pem → 0 < n → ReadsBlocks o name n i old new → ReadsInput o name i old new
 
--- a block with these lines is refused: they are encrypted or no base64, or an action refuses its octets
+-- a block with these lines is rejected: they are encrypted or aren't base64, or an action rejects its octets
 pub data RefusesBlock (o : Options) (lines : List ℕ) : Type 0 where
   encrypted : IsEncrypted lines → RefusesBlock o lines
   no_base64 : IsErr (base64_decode_of standard_pad_indifferent (characters_of lines)) → RefusesBlock o lines
   refused : (w : List ℕ) (old new : Option (List ℕ)) → base64_decode_of standard_pad_indifferent (characters_of lines) ≡ Ok w
       → IsRefusedBy o.action o w old new → RefusesBlock o lines
 
--- what is left of a text after n blocks
+-- the rest of a text after n blocks
 pub data IsAfterBlocks (i : List ℕ) : ℕ → List ℕ → Type 0 where
   after_none : IsAfterBlocks i 0 i
   after_more : {n : ℕ} {j : List ℕ} (label lines rest : List ℕ) → IsAfterBlocks i n j
       → BeginsWithBlock j label lines rest → IsAfterBlocks i (suc n) rest
 
--- A text has no block, or one that is refused, or one that is broken after these.
+-- A text has no block, or one that is rejected, or one that is broken after these.
 pub data RefusesBlocks (o : Options) (i : List ℕ) : Type 0 where
   without_blocks : HasNoBlock i → RefusesBlocks o i
   refused_block : (n : ℕ) (j label lines rest : List ℕ) → IsAfterBlocks i n j → BeginsWithBlock j label lines rest
       → RefusesBlock o lines → RefusesBlocks o i
   broken_block : (n : ℕ) (j : List ℕ) (e : FormError) → IsAfterBlocks i n j → BreaksBlock j e → RefusesBlocks o i
 
--- An input is refused: a look at it finds no form, it spells no octets, these are refused after what is written, or so
--- are its blocks.
+-- An input is rejected: no form is detected, it can't be decoded, its octets are rejected after this output, or its
+-- blocks are rejected.
 pub data RefusesInput (o : Options) (name i : List ℕ) (old new : Option (List ℕ)) : Type 0 where
   without_form : (e : FormError) → o.form ≡ None → FindsNoForm i e → RefusesInput o name i old new
   without_octets : (form : Form) → IsFormOf o.form i form → form ≢ Pem → ((w : List ℕ) → ¬ Spells form i w)

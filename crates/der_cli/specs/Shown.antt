@@ -1,4 +1,4 @@
--- What is written of octets in words.
+-- The output of `der show`.
 use Rattle.std.specs.Prelude.{◌≡◌, ◌⊎◌, ◌&&◌, not, ℕ, Bool, true, false, MatchBool, MatchOption, Option, Some, None}
 use Rattle.std.specs.Prelude.{List, [], ◌++◌, codes, drop, take}
 use Rattle.std.specs.Io.KnownBytes.{Appends, Keeps}
@@ -12,18 +12,18 @@ use Rattle.der_show.specs.Described.{IsDescribed}
 use Rattle.der_show.specs.Refused.{offset_of}
 use Rattle.der_show.specs.RefusedTexts.{IsRefusedText}
 use Rattle.der_show.specs.Unread.{IsWhyUnread}
-use Rattle.der_walk.specs.declared.refusal.Refusal.{Refusal}
-use Rattle.der_walk.specs.declared.walk.Walk.{Walk}
-use Rattle.der_walk.specs.Visits.{Extras, Visited, Visits}
-use Rattle.der_walk.specs.Walked.{IsRefused}
-use Rattle.show_json.specs.declared.object.Source.{Source}
-use Rattle.show_json.specs.Objects.{refused_text, shown_text}
+use Rattle.der_elements.specs.declared.refusal.Refusal.{Refusal}
+use Rattle.der_elements.specs.declared.walk.Walk.{Walk}
+use Rattle.der_elements.specs.Visits.{Extras, Visited, Visits}
+use Rattle.der_elements.specs.Walked.{IsRefused}
+use Rattle.text_json.specs.declared.shown.object.Source.{Source}
+use Rattle.text_json.specs.Shown.Objects.{refused_text, shown_text}
 
--- a rule of RFC 5280 is broken, and that is an error
+-- whether a rule of RFC 5280 is broken, and the options make that an error
 abbrev pub is_broken : Options → Words → Bool
 is_broken o w = o.is_strict && not w.keeps_rules
 
--- where an object of JSON says that octets are from
+-- the source of octets in a JSON object
 abbrev pub source_of : Origin → Source
 source_of o = record {
   file = o.name;
@@ -35,31 +35,31 @@ source_of o = record {
 abbrev pub AddsObject : List ℕ → Option (List ℕ) → Option (List ℕ) → Type 0
 AddsObject object old new = Appends old new (object ++ codes "\n")
 
--- words as an object, with the lines before them
+-- a summary as a JSON object, with the lines before it
 abbrev pub words_object : Source → Words → List ℕ
 words_object s w = shown_text s (take w.words_at w.text.items) (drop w.words_at w.text.items) w.keeps_rules
 
--- known octets grew by words from there, or by the object of them
+-- known octets grew by a summary of octets with this source, as text or as a JSON object
 abbrev pub AddsWordsFrom : Source → Options → Words → Option (List ℕ) → Option (List ℕ) → Type 0
 AddsWordsFrom s o w old new =
     MatchBool o.is_json (AddsObject (words_object s w) old new) (Appends old new w.text.items)
 
--- the same from somewhere
+-- known octets grew by a summary of octets with some source
 abbrev pub AddsWords : Options → Words → Option (List ℕ) → Option (List ℕ) → Type 0
 AddsWords o w old new = (s : Source) × AddsWordsFrom s o w old new
 
--- known octets grew by the words of an input, and whether it is broken so
+-- known octets grew by the summary of an input, and whether it breaks a rule that is an error
 pub record ShowsWordsOf (o : Options) (i : List ℕ) (broken : Bool) (old new : Option (List ℕ)) : Type 0 where
   pub words : Words
   pub describes : IsDescribed o.present i (Some words)
   pub breaks : is_broken o words ≡ broken
   pub adds : AddsWords o words old new
 
--- known octets grew by the words of an input
+-- known octets grew by the summary of an input, which breaks no rule that is an error
 abbrev pub ShowsWords : Options → List ℕ → Option (List ℕ) → Option (List ℕ) → Type 0
 ShowsWords o i old new = ShowsWordsOf o i false old new
 
--- the text of what was read of a certificate, by why the input is none
+-- the summary of what was read of a certificate before the error
 abbrev pub IsTextOf : Option ℕ → List ℕ → Option Unread → Option (List ℕ) → Type 0
 IsTextOf now i (Some u) text = IsRefusedText now i u.refused text
 IsTextOf now i None text = text ≡ None
@@ -76,7 +76,7 @@ EndsAt i f = (vs : List Visited) × (w : Walk) × IsRefused plain Ber i vs w f
 abbrev pub AreAllElements : List ℕ → Type 0
 AreAllElements i = (vs : List Visited) × Visits plain Ber 101 0 0 i vs
 
--- the offset of the error: of the first element that is refused by BER, or else of the reader that says why
+-- the offset of the error: that of the first element that isn't valid BER, or else that of the reader that got furthest
 abbrev pub IsErrorOffset : List ℕ → Option Unread → Option ℕ → Type 0
 IsErrorOffset i unread offset = ((f : Refusal) × EndsAt i f × (offset ≡ Some f.offset))
     ⊎ (AreAllElements i × (offset ≡ option_map (λ u. offset_of u.refused) unread))
@@ -93,13 +93,13 @@ pub record AddsError (s : Source) (i : List ℕ) (unread : Option Unread) (text 
   pub is_offset : IsErrorOffset i unread offset
   pub adds : AddsObject (refused_text s error offset (unwrap_or text [])) old new
 
--- known octets grew by what was read, or by the object of the error
+-- known octets grew by what was read, or by the JSON object of the error
 abbrev pub AddsFoundFrom : Source → Options → List ℕ → Option Unread → Option (List ℕ) → Option (List ℕ)
     → Option (List ℕ) → Type 0
 AddsFoundFrom s o i unread text old new =
     MatchBool o.is_json (AddsError s i unread text old new) (AddsText text old new)
 
--- known octets grew by what was read of a certificate that is refused, or by the object of the error
+-- known octets grew by what was read of a rejected certificate, or by the JSON object of the error
 pub record ShowsRead (o : Options) (i : List ℕ) (old new : Option (List ℕ)) : Type 0 where
   pub unread : Option Unread
   pub why : IsWhyUnread i unread
@@ -108,8 +108,8 @@ pub record ShowsRead (o : Options) (i : List ℕ) (old new : Option (List ℕ)) 
   pub source : Source
   pub adds : AddsFoundFrom source o i unread text old new
 
--- An input has no words, and what was read of a certificate is written. Or known octets grew by its words, and that it
--- breaks a rule is an error.
+-- An input has no summary, and what was read of a certificate is written. Or known octets grew by its summary, and it
+-- breaks a rule, which is an error.
 pub data RefusesShown (o : Options) (i : List ℕ) (old new : Option (List ℕ)) : Type 0 where
   no_words : IsDescribed o.present i None → ShowsRead o i old new → RefusesShown o i old new
   breaks_rule : ShowsWordsOf o i true old new → RefusesShown o i old new

@@ -1,21 +1,21 @@
--- How the program ends.
+-- The exit status of the program.
 use Rattle.std.specs.Prelude.{◌≡◌, ◌≤◌, ◌⊎◌, ℕ, Bool, true, false, Option, Some, None, List}
 use Rattle.der_actions.specs.declared.diff.Difference.{Difference}
 use Rattle.der_actions.specs.declared.diff.Difference.TheVariants.{Same, Different}
 use Rattle.der_actions.specs.declared.options.Options.{Options}
 use Rattle.der_actions.specs.Differences.{Compares}
 
--- 0 after inputs that are read to their end, 1 after one that isn't, 2 after other arguments, and 141 if what reads the
--- output is closed
+-- 0 if all inputs are accepted, 1 if one is rejected, 2 if the arguments are wrong, and 141 if the reader of the output
+-- closed it
 abbrev pub IsStatus : ℕ → Type 0
 IsStatus n = (n ≤ 2) ⊎ (n ≡ 141)
 
--- after inputs: whether all are read to their end
+-- the status after inputs: whether all are accepted
 abbrev pub status_of : Bool → ℕ
 status_of true = 0
 status_of false = 1
 
--- after a comparison: whether the elements are the same, and 2 if an input is refused
+-- the status after a comparison: 0 if the elements are the same, 1 if they differ, and 2 if an input is rejected
 abbrev pub status_of_comparison : Option Difference → ℕ
 status_of_comparison (Some Same) = 0
 status_of_comparison (Some Different) = 1

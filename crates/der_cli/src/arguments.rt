@@ -1,4 +1,4 @@
-//! The arguments.
+//! The arguments of a subcommand, as options.
 ghost use Rattle.std.specs.Prelude.{◌≡◌, ◌≢◌, ◌⊎◌, IfSome, Some, false};
 ghost use Rattle.der_input.specs.declared.form.Form.{Form};
 ghost use Rattle.der_cli.specs.Arguments.{action_word, form_word};
@@ -8,12 +8,12 @@ ghost use Rattle.der_base.specs.declared.rules.Rules.{Rules};
 use clap::ArgMatches;
 use der_actions::options::{Action, Naming, Options};
 use der_actions::place::{Place, place_named};
+use der_elements::Rules;
 use der_input::Form;
 use der_print::{Limit, Style};
-use der_walk::Rules;
 
-/// What the arguments after a subcommand ask for, but by which type elements are named. The style of lines is that of
-/// the terminal, unless they say it.
+/// The options that the arguments after a subcommand give, except for the type that names elements. The style of lines
+/// is that of the terminal, unless an argument changes it.
 pub(crate) fn options_of<'a>(
     action: Action,
     matches: &ArgMatches<'a>,
@@ -54,7 +54,7 @@ pub(crate) fn options_of<'a>(
     }
 }
 
-/// The rules that are asked for: DER for a check, and BER for all else.
+/// The rules: DER for a check and BER otherwise, unless an argument changes them.
 fn rules_of(action: Action, matches: &ArgMatches<'_>) -> Rules
     ensures { (action ≡ Action.Canon) ⊎ (action ≡ Action.Show) → result ≡ Rules.Ber }
 {
@@ -76,7 +76,7 @@ fn enters_strings(action: Action, matches: &ArgMatches<'_>) -> bool
     }
 }
 
-/// How much is printed of lines. No columns are no limit.
+/// How much of a line is printed. A width of 0 is no limit.
 pub(crate) fn limit_of(matches: &ArgMatches<'_>, terminal: Limit) -> Limit {
     if matches.get_flag("full") {
         return Limit::Whole;
@@ -88,7 +88,7 @@ pub(crate) fn limit_of(matches: &ArgMatches<'_>, terminal: Limit) -> Limit {
     }
 }
 
-/// The place that is asked for.
+/// The place that the arguments give, if they give one.
 fn place_of<'a>(matches: &ArgMatches<'a>) -> Option<Place<'a>> {
     if let Some(word) = matches.get_str("place") {
         return Some(place_named(word));

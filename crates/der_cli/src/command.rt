@@ -1,38 +1,42 @@
 //! The command line.
-use crate::subcommands::{Argument, Kind, SUBCOMMANDS, Subcommand};
+use crate::subcommands::{Argument, Kind, Subcommand, subcommands};
 use clap::{Arg, ArgAction, Command, value_parser};
 use std::alloc::{AllocError, Global};
 
-/// The version of the program, and of the program logic in which it is proved.
+/// The version of the program, and of the logic in which it is proved.
 const VERSION: &str = "0.1.0 (logic dac8208d650f15bf)";
 
 const EXAMPLES: &str = "\
 Examples:
   der show certificate.pem
+  der check -r certificates
   der json message.ber | jq 'select(.type == \"INTEGER\") | .value'";
 
 const FORMS: [&str; 4] = ["der", "pem", "hex", "base64"];
 
 /// The command line of the program.
 pub(crate) fn command<'a>(alloc: Global) -> Result<Command<'a>, AllocError> {
-    let subcommands = subcommands(alloc)?;
-    program(alloc).subcommands(subcommands)
+    let commands = commands_of(alloc, &subcommands())?;
+    program(alloc).subcommands(commands)
 }
 
 /// The program without its subcommands.
 fn program<'a>(alloc: Global) -> Command<'a> {
     Command::new(alloc, "der")
         .version(VERSION)
-        .about("Shows, checks and converts files of ASN.1 in BER or DER")
+        .about("Shows, checks and converts ASN.1 files in BER or DER")
         .after_help(EXAMPLES)
         .subcommand_required(true)
         .arg_required_else_help(true)
 }
 
 /// The subcommands.
-fn subcommands<'a>(alloc: Global) -> Result<Vec<Command<'a>>, AllocError> {
+fn commands_of<'a>(
+    alloc: Global,
+    subcommands: &[&Subcommand],
+) -> Result<Vec<Command<'a>>, AllocError> {
     let mut commands = Vec::new(alloc);
-    for subcommand in &SUBCOMMANDS {
+    for subcommand in subcommands {
         commands.push(subcommand_of(alloc, subcommand)?)?;
     }
     Ok(commands)
@@ -71,7 +75,7 @@ fn argument_of<'a>(alloc: Global, argument: &Argument) -> Result<Arg<'a>, AllocE
     }
 }
 
-/// An argument, with what is given for it.
+/// An argument of its kind.
 fn of_kind<'a>(alloc: Global, argument: &Argument) -> Arg<'a> {
     let arg = helped(alloc, argument);
     match argument.kind {
@@ -88,13 +92,13 @@ fn of_kind<'a>(alloc: Global, argument: &Argument) -> Arg<'a> {
     }
 }
 
-/// An argument with what the help says of it.
+/// An argument with its help.
 fn helped<'a>(alloc: Global, argument: &Argument) -> Arg<'a> {
     let arg = Arg::new(alloc, argument.name).help(argument.help);
     with_value(with_letter(arg, argument.letter), argument.value)
 }
 
-/// An argument for whose name a letter may stand.
+/// An argument with its letter, if it has one.
 fn with_letter(arg: Arg<'_>, letter: Option<char>) -> Arg<'_> {
     match letter {
         Some(letter) => arg.short(letter),

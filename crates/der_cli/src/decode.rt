@@ -10,7 +10,7 @@ use std::alloc::Global;
 use std::io;
 use std::io::{ErrorKind, Write};
 
-/// The octets of an input, those of the blocks of PEM one after another. None if it has none, which is reported.
+/// The octets of an input. Those of PEM blocks follow one another. None if it can't be decoded, which is reported.
 pub(crate) fn octets_in<X: Write>(
     alloc: Global,
     asked: Option<Form>,
@@ -42,11 +42,11 @@ fn decoded(alloc: Global, asked: Option<Form>, input: &[u8]) -> Result<Vec<u8>, 
     }
 }
 
-/// The octets of the blocks of a text.
+/// The octets of all blocks of a text.
 fn octets_of_blocks(alloc: Global, text: &[u8]) -> Result<Vec<u8>, FormError> {
     let mut octets = Vec::new(alloc);
     let mut rest = text;
-    // A block has an octet at least, so the loop ends at the end of the text.
+    // A block has at least one octet, so the loop ends at the end of the text.
     for before in 0..=text.len() {
         match next_block(rest)? {
             Some((block, after)) => {

@@ -9,25 +9,25 @@ use std::os::unix::fs::MetadataExt;
 use std::rt::Files;
 use std::{fs, io};
 
-/// Files that are to be read.
+/// The files that are to be read.
 #[derive(Drop)]
 pub(crate) struct FileList {
-    /// Their names, in order.
+    /// The names of the files, in order.
     pub names: Vec<String>,
-    /// Which files these are, if folders are read.
+    /// The identities of these files, if folders are read.
     known: BTreeSet<FileId>,
-    /// Whether all folders were read to their end.
+    /// Whether all folders were read to their end and contain a file.
     pub is_whole: bool,
 }
 
-/// A file of the system, whatever its name is: its device, and its number there.
+/// The identity of a file, whatever its name: its device, and its number there.
 #[derive(Clone, Copy, PartialEq, Eq, PartialOrd, Ord)]
 struct FileId {
     device: u64,
     number: u64,
 }
 
-/// What a name in a folder stands for: of a file which one it is, if the system says it.
+/// The kind of a name in a folder. A file has its identity, if the system gives one.
 #[derive(Clone, Copy)]
 enum Kind {
     File(Option<FileId>),
@@ -39,7 +39,7 @@ enum Kind {
     Other,
 }
 
-/// A file in a folder. In order, the names of files are before those of links.
+/// A file in a folder. Files sort before links, then by name.
 #[derive(PartialEq, Eq, PartialOrd, Ord, Drop)]
 struct Found {
     is_link: bool,
@@ -47,17 +47,17 @@ struct Found {
     id: Option<FileId>,
 }
 
-/// What a folder has, and the folders inside it.
+/// The files of a folder and of the folders inside it.
 #[derive(Drop)]
 struct FolderContents {
     files: Vec<Found>,
-    /// The names that aren't looked at yet. The last one is the next.
+    /// The names that are still to be looked at. The last one is the next.
     names: Vec<String>,
     is_whole: bool,
 }
 
-/// Lists files, and in place of a folder the files in it if `is_recursive`. What is skipped or can't be read in a folder
-/// is reported.
+/// Lists files. If `is_recursive`, a folder is replaced by the files in it. Anything in a folder that is skipped or
+/// can't be read is reported.
 pub(crate) fn list_files<R: Files + AllocGlobal + Clone + Drop, X: Write>(
     rt: &R,
     files: &[&str],
@@ -85,7 +85,7 @@ impl FileList {
         }
     }
 
-    /// Adds a file, or the files in a folder. A name that can't be read is added, so that reading it says why.
+    /// Adds a file, or the files in a folder. A name that can't be read is added, so that reading it gives the reason.
     fn add_argument<R: Files + AllocGlobal + Clone + Drop, X: Write>(
         &mut self,
         rt: &R,
@@ -115,8 +115,11 @@ impl FileList {
             is_whole,
             ..
         } = tree_of(rt, folder, err)?;
+        if is_whole && files.is_empty() {
+            writeln!(err, "der: {}: no file in it", Name(folder))?;
+        }
+        self.is_whole = self.is_whole && is_whole && !files.is_empty();
         files.sort()?;
-        self.is_whole = self.is_whole && is_whole;
         let mut names = Vec::new(rt.alloc());
         for Found { name, id, .. } in files {
             if self.is_new(id)? {
@@ -127,7 +130,7 @@ impl FileList {
         Ok(self.names.append(&mut names)?)
     }
 
-    /// Whether a file isn't known yet, which it is then. One of which the system doesn't say which it is counts as new.
+    /// Whether a file isn't known yet, and makes it known. A file without an identity always counts as new.
     fn is_new(&mut self, id: Option<FileId>) -> Result<bool, AllocError> {
         match id {
             Some(id) => Ok(self.known.insert(id)?),
@@ -136,7 +139,7 @@ impl FileList {
     }
 }
 
-/// What a folder has, and the folders inside it.
+/// The files of a folder and of the folders inside it.
 fn tree_of<R: Files + AllocGlobal + Clone + Drop, X: Write>(
     rt: &R,
     folder: &str,
@@ -158,7 +161,7 @@ fn tree_of<R: Files + AllocGlobal + Clone + Drop, X: Write>(
 }
 
 impl FolderContents {
-    /// Takes the names in a folder, to look at the first of them next.
+    /// Takes the names in a folder, of which the first is looked at next.
     fn enter<R: Files + AllocGlobal + Clone + Drop, X: Write>(
         &mut self,
         rt: &R,
@@ -181,7 +184,7 @@ impl FolderContents {
         Ok(self.names.append(&mut names)?)
     }
 
-    /// Adds the file with this name, takes the names in the folder, or says that it is skipped.
+    /// Adds the file with this name, takes the names in the folder, or reports that it is skipped.
     fn add<R: Files + AllocGlobal + Clone + Drop, X: Write>(
         &mut self,
         rt: &R,
@@ -204,7 +207,7 @@ impl FolderContents {
         Ok(self.files.push(Found { is_link, name, id })?)
     }
 
-    /// Reports what can't be read.
+    /// Reports a name that can't be read.
     fn report<X: Write>(&mut self, name: &str, e: &io::Error, err: &mut X) -> io::Result<()> {
         self.is_whole = false;
         if e.kind() == ErrorKind::InvalidFilename && e.raw_os_error().is_none() {
@@ -214,12 +217,12 @@ impl FolderContents {
     }
 }
 
-/// Says that a name in a folder is skipped.
+/// Reports that a name in a folder is skipped.
 fn skip<X: Write>(name: &str, why: &str, err: &mut X) -> io::Result<()> {
     writeln!(err, "der: {}: skipped, {why}", Name(name))
 }
 
-/// What a name in a folder stands for.
+/// The kind of a name in a folder.
 fn kind_of<R: Files>(rt: &R, name: &str) -> io::Result<Kind> {
     let metadata = fs::symlink_metadata(rt, name)?;
     if !metadata.is_symlink() {
@@ -232,7 +235,7 @@ fn kind_of<R: Files>(rt: &R, name: &str) -> io::Result<Kind> {
     }
 }
 
-/// What has this metadata.
+/// The kind of something with this metadata that isn't a link.
 fn own_kind(metadata: &Metadata) -> Kind {
     if metadata.is_dir() {
         Kind::Folder
@@ -243,7 +246,7 @@ fn own_kind(metadata: &Metadata) -> Kind {
     }
 }
 
-/// What a link leads to, by the metadata of that.
+/// The kind of a link to something with this metadata.
 fn linked_kind(target: &Metadata) -> Kind {
     match own_kind(target) {
         Kind::Folder => Kind::LinkToFolder,
@@ -252,7 +255,7 @@ fn linked_kind(target: &Metadata) -> Kind {
     }
 }
 
-/// Whether a link that gives this error leads to nothing, or to itself.
+/// Whether this error is that of a link to nothing or to itself.
 fn is_of_broken_link(kind: ErrorKind) -> bool {
     matches!(
         kind,
@@ -260,7 +263,7 @@ fn is_of_broken_link(kind: ErrorKind) -> bool {
     )
 }
 
-/// Which file has this metadata. None if its number is 0, as where a file system doesn't have numbers.
+/// The identity of the file with this metadata. None if its number is 0, as in a file system without numbers.
 fn id_of(metadata: &Metadata) -> Option<FileId> {
     let id = FileId {
         device: metadata.dev(),

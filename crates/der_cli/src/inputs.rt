@@ -1,4 +1,4 @@
-//! The files that are read, and the standard input.
+//! The files to read, and standard input.
 ghost use Rattle.std.specs.Prelude.{◌≤◌, IfOk};
 ghost use Rattle.der_cli.specs.Statuses.{IsStatusOf};
 
@@ -14,22 +14,23 @@ use der_actions::name::Name;
 use der_actions::options::{Action, Naming, Options};
 use der_actions::origin::Origin;
 use der_actions::text::{write_octets, write_text};
+use der_elements::Rules;
 use der_input::Form;
 use der_print::Style;
-use der_walk::Rules;
 use oid_names::OwnNames;
 use std::alloc::Global;
 use std::io::{ErrorKind, Read, Write};
 use std::rt::Files;
 use std::{fs, io};
 
-/// The standard input in messages.
+/// The name of standard input in messages.
 pub(crate) const STANDARD_INPUT: &str = "standard input";
 
-/// The standard input among files.
+/// The name of standard input among files.
 pub(crate) const DASH: &str = "-";
 
-/// Runs over each file, and over those in folders if `is_recursive`. Returns whether there was one, and all were read.
+/// Runs the action on each file, and on those in folders if `is_recursive`. Returns whether there was a file, and all
+/// were accepted.
 pub(crate) fn run_files<R: Files + AllocGlobal + Clone + Drop, I: Read, W: Write, X: Write>(
     rt: &R,
     options: &Options<'_>,
@@ -46,15 +47,13 @@ pub(crate) fn run_files<R: Files + AllocGlobal + Clone + Drop, I: Read, W: Write
     };
     let mut summary = Summary::new(list.is_whole);
     run_each(rt, &options, &list.names, &mut summary, input, out, err)?;
-    if summary.is_empty() {
-        writeln!(err, "der: no file was read")?;
-    } else if options.action == Action::Check && options.has_several_files && !options.is_quiet {
+    if options.action == Action::Check && options.has_several_files && !options.is_quiet {
         summary.write(&options, out)?;
     }
     Ok(summary.is_good())
 }
 
-/// Runs over each file, and counts it.
+/// Runs the action on each file, and counts the file.
 fn run_each<R: Files + AllocGlobal, I: Read, W: Write, X: Write>(
     rt: &R,
     options: &Options<'_>,
@@ -81,7 +80,7 @@ fn run_each<R: Files + AllocGlobal, I: Read, W: Write, X: Write>(
     Ok(())
 }
 
-/// The octets of a file, or of the standard input.
+/// The octets of a file, or of standard input.
 fn read_file<R: Files + AllocGlobal, I: Read>(
     rt: &R,
     name: &str,
@@ -109,7 +108,7 @@ pub(crate) fn report_unread<X: Write>(name: &str, e: &io::Error, err: &mut X) ->
     writeln!(err, "der: {name}: {e}")
 }
 
-/// Compares two files. Returns the status.
+/// Compares two files. Returns the exit status.
 pub(crate) fn run_diff<'n, 't, R: Files + AllocGlobal, I: Read, W: Write, X: Write>(
     rt: &R,
     matches: &ArgMatches<'_>,
@@ -131,7 +130,7 @@ pub(crate) fn run_diff<'n, 't, R: Files + AllocGlobal, I: Read, W: Write, X: Wri
     }
 }
 
-/// Compares two files. Returns the status.
+/// Compares two files. Returns the exit status.
 fn diff_files<R: Files + AllocGlobal, I: Read, W: Write, X: Write>(
     rt: &R,
     options: &Options<'_>,
@@ -148,7 +147,7 @@ fn diff_files<R: Files + AllocGlobal, I: Read, W: Write, X: Write>(
     }
 }
 
-/// The status of a comparison of the octets of two files.
+/// The exit status for a comparison of the octets of two files.
 fn status_of_both<W: Write, X: Write>(
     alloc: Global,
     options: &Options<'_>,
@@ -167,7 +166,7 @@ fn status_of_both<W: Write, X: Write>(
     status_of_sides(alloc, options, sides, out, err)
 }
 
-/// The octets of two files. None if one has none, which is reported.
+/// The octets of two files. None if one can't be read or decoded, which is reported.
 fn both_sides<R: Files + AllocGlobal, I: Read, X: Write>(
     rt: &R,
     form: Option<Form>,
@@ -184,7 +183,7 @@ fn both_sides<R: Files + AllocGlobal, I: Read, X: Write>(
     }
 }
 
-/// The status of a comparison.
+/// The exit status for a comparison.
 fn status_of_sides<W: Write, X: Write>(
     alloc: Global,
     options: &Options<'_>,
@@ -199,7 +198,7 @@ fn status_of_sides<W: Write, X: Write>(
     Ok(status_of_comparison(found))
 }
 
-/// What is asked of a comparison.
+/// The options of a comparison.
 fn diff_options<'a>(matches: &ArgMatches<'a>, terminal: Style) -> Options<'a> {
     Options {
         action: Action::Tree,
@@ -228,7 +227,7 @@ fn diff_options<'a>(matches: &ArgMatches<'a>, terminal: Style) -> Options<'a> {
     }
 }
 
-/// The octets of a file, as its form says. None if there are none, which is reported.
+/// The octets of a file, decoded. None if it can't be read or decoded, which is reported.
 fn side<R: Files + AllocGlobal, I: Read, X: Write>(
     rt: &R,
     form: Option<Form>,
@@ -246,7 +245,7 @@ fn side<R: Files + AllocGlobal, I: Read, X: Write>(
     octets_in(rt.alloc(), form, origin, &octets, err)
 }
 
-/// The octets of a file. None if it can't be read, which is reported.
+/// The content of a file. None if it can't be read, which is reported.
 fn read_or_report<R: Files + AllocGlobal, I: Read, X: Write>(
     rt: &R,
     name: &str,
@@ -262,7 +261,7 @@ fn read_or_report<R: Files + AllocGlobal, I: Read, X: Write>(
     }
 }
 
-/// Writes a text of the octets of a file. Returns whether they were read.
+/// Writes the text of the octets of a file. Returns whether the file was read and decoded.
 pub(crate) fn run_text<R: Files + AllocGlobal, I: Read, W: Write, X: Write>(
     rt: &R,
     matches: &ArgMatches<'_>,
@@ -293,7 +292,7 @@ pub(crate) fn run_octets<R: Files + AllocGlobal, I: Read, W: Write, X: Write>(
     write_octets(rt.alloc(), shown(name), &text, out, err)
 }
 
-/// The file that is named, or else the standard input.
+/// The file that the arguments name, else standard input.
 fn file_of<'a>(matches: &ArgMatches<'a>) -> &'a str {
     matches.get_str("file").unwrap_or(DASH)
 }

@@ -1,4 +1,4 @@
-//! What the program `der` does, over any reader and writers.
+//! The program `der`, over any reader and writers.
 #![tactic(auto)]
 
 mod arguments;

@@ -1,4 +1,4 @@
-//! Names of identifiers in a table of one's own, which `--names` names.
+//! The user's names of object identifiers, in the table of `--names`.
 ghost use Rattle.std.specs.Prelude.{◌≡◌, IfOk, MatchOption, ℕ};
 ghost use Rattle.std.specs.Prelude.{Some, position};
 ghost use Rattle.oid_names.specs.OwnNames.{IsTable, entries_in, is_wrong, lines_in};
@@ -11,8 +11,7 @@ use std::io::{ErrorKind, Write};
 use std::rt::Files;
 use std::{fs, io};
 
-/// The text of the table with this name, or an empty one where no table is asked for. None if it can't be read, which
-/// is reported.
+/// The text of the table with this name. Empty if there is no name. None if it can't be read, which is reported.
 pub(crate) fn table_text<R: Files + AllocGlobal, X: Write>(
     rt: &R,
     name: Option<&str>,

@@ -1,12 +1,12 @@
-//! The present.
+//! The current time.
 ghost use Rattle.std.specs.Prelude.{◌≡◌, ◌≢◌, Some, ℕ};
 ghost use Rattle.der_actions.specs.declared.options.Action.{Action};
 
 use der_actions::options::{Action, Options};
 use std::time::Clock;
 
-/// Options with the present by the clock, if it is needed and they don't have it. If the clock can't be read, there is
-/// none.
+/// The options with the current time by the clock, if they need it and don't have it. If the clock can't be read, they
+/// stay without it.
 pub(crate) fn at_present<'a, R: Clock>(rt: &R, options: Options<'a>) -> Options<'a>
     ensures given { (n : ℕ) → options.entry.present ≡ Some n → result ≡ options.entry }
     ensures others { options.entry.action ≢ Action.Show → result ≡ options.entry }

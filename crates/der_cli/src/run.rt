@@ -1,4 +1,4 @@
-//! What is done with an input.
+//! The action of a subcommand on an input.
 ghost use Rattle.std.specs.Prelude.{◌≡◌, ◌≢◌, ◌<◌, ◌↔◌, ℕ, IfErr, IfOk, IsOkAnd, IsTrue, MatchBool, MatchResult};
 ghost use Rattle.std.specs.Prelude.{None, Ok, OnOk, Some, false};
 ghost use Rattle.der_input.specs.declared.error.FormError.{FormError};
@@ -28,8 +28,8 @@ use std::alloc::Global;
 use std::io;
 use std::io::{ErrorKind, Write};
 
-/// Does what is asked for with an input, and reports on `err` why it is refused. Returns whether all of it was
-/// read: of a check whether it is elements and nothing else.
+/// Runs the action of the options on an input, and reports on `err` why the input is rejected. Returns whether all of
+/// it was accepted. A check accepts an input of valid elements and nothing else.
 pub fn run<W: Write, X: Write>(
     alloc: Global,
     options: &Options<'_>,
@@ -61,7 +61,7 @@ pub fn run<W: Write, X: Write>(
     }
 }
 
-/// How an input is written: as is asked for, or as a look at it finds.
+/// The form of an input: the given one, or else the one that is detected.
 pub(crate) fn form_in(asked: Option<Form>, input: &[u8]) -> Result<Form, FormError>
     ensures found { IfOk result (IsFormOf asked input.now) }
     ensures asked { (form : Form) → asked ≡ Some form → result ≡ Ok form }
@@ -73,7 +73,7 @@ pub(crate) fn form_in(asked: Option<Form>, input: &[u8]) -> Result<Form, FormErr
     }
 }
 
-/// Does it with octets that are decoded, or reports why they aren't.
+/// Runs the action on decoded octets, or reports why they can't be decoded.
 fn act_on_decoded<W: Write, X: Write>(
     options: &Options<'_>,
     name: &str,
@@ -95,7 +95,8 @@ fn act_on_decoded<W: Write, X: Write>(
     }
 }
 
-/// Does it with the octets of an input that has no blocks. A tree or words follow the name, if there are several.
+/// Runs the action on the octets of an input that has no blocks. If there are several files, a tree or a summary
+/// follows the file name.
 fn act_on_file<W: Write, X: Write>(
     alloc: Global,
     options: &Options<'_>,
@@ -122,7 +123,7 @@ fn act_on_file<W: Write, X: Write>(
     )
 }
 
-/// Writes the name of a file, before its tree or words if there are several.
+/// Writes the name of a file before its tree or summary, if there are several.
 fn write_heading<W: Write>(options: &Options<'_>, name: &str, out: &mut W) -> io::Result<()>
     ensures { OnOk result (MatchBool options.now.has_several_files
         (WritesName options.now name.now (W.contents out.old) (W.contents out.new))
@@ -134,7 +135,7 @@ fn write_heading<W: Write>(options: &Options<'_>, name: &str, out: &mut W) -> io
     Ok(())
 }
 
-/// Writes the name of a file, before its tree or words.
+/// Writes the name of a file before its tree or summary.
 fn write_name<W: Write>(options: &Options<'_>, name: &str, out: &mut W) -> io::Result<()>
     ensures { OnOk result (WritesName options.now name.now (W.contents out.old) (W.contents out.new)) }
 {
@@ -144,14 +145,14 @@ fn write_name<W: Write>(options: &Options<'_>, name: &str, out: &mut W) -> io::R
     writeln!(out, "{}:", Name(name))
 }
 
-/// Whether a line with the name is before what is written: a tree, or words that aren't JSON.
+/// Whether a line with the name precedes the output. This is so for a tree, and for a summary that isn't JSON.
 fn has_heading(options: &Options<'_>) -> bool
     ensures { result ≡ has_heading options.now }
 {
     matches!(options.action, Action::Tree | Action::Show) && !options.is_json
 }
 
-/// Does it with octets.
+/// Runs the action on octets.
 fn act<W: Write, X: Write>(
     alloc: Global,
     options: &Options<'_>,
@@ -180,7 +181,7 @@ fn act<W: Write, X: Write>(
     }
 }
 
-/// Does it with the blocks of a text in PEM.
+/// Runs the action on the blocks of a PEM text.
 fn act_on_blocks<W: Write, X: Write>(
     alloc: Global,
     options: &Options<'_>,
@@ -195,7 +196,7 @@ fn act_on_blocks<W: Write, X: Write>(
 {
     let mut rest = text;
     let mut are_read = true;
-    // A block has an octet at least, so the loop ends at the end of the text.
+    // A block has at least one octet, so the loop ends at the end of the text.
     for before in 0..=text.len() {
         match next_block(rest) {
             Ok(Some((block, after))) => {
@@ -211,7 +212,7 @@ fn act_on_blocks<W: Write, X: Write>(
     Ok(false)
 }
 
-/// Does it with a block that so many are before. The tree or the words of a block follow its label.
+/// Runs the action on a block with this many blocks before it. A tree or a summary follows the label of the block.
 fn act_on_block<'x, W: Write, X: Write>(
     alloc: Global,
     options: &Options<'_>,
@@ -247,7 +248,7 @@ fn act_on_block<'x, W: Write, X: Write>(
     }
 }
 
-/// Writes the name of a file and the label of a block, before its tree or words.
+/// Writes the name of a file and the label of a block, before its tree or summary.
 fn write_label<W: Write>(
     options: &Options<'_>,
     name: &str,
@@ -262,7 +263,7 @@ fn write_label<W: Write>(
     writeln!(out, "{}: {}", Name(name), Label(label))
 }
 
-/// Reports a file whose octets aren't found.
+/// Reports a file that can't be decoded.
 fn refuse_file<W: Write, X: Write>(
     options: &Options<'_>,
     name: &str,

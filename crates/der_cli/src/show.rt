@@ -1,4 +1,4 @@
-//! What octets are, in words.
+//! The action of `der show`.
 ghost use Rattle.std.specs.Option.{option_copied};
 ghost use Rattle.std.specs.Prelude.{◌≡◌, IfOk, IsTrue, OnOk, false, not};
 ghost use Rattle.der_show.specs.Messages.{text_in};
@@ -9,14 +9,14 @@ use crate::shown_object::{write_refused, write_shown};
 use der_actions::options::Options;
 use der_actions::origin::Origin;
 use der_actions::report::report_fault;
+use der_elements::Rules;
 use der_show::{Unread, Words, text_of_refused, why_unread, words_of};
-use der_walk::Rules;
 use std::alloc::{AllocError, Global};
 use std::io;
 use std::io::Write;
 
-/// Writes what octets are in words. If they are nothing that is known, it writes what was read of a certificate that is
-/// refused, and reports on `err` why. Returns whether they are known, and break no rule of RFC 5280 if that is an error.
+/// Writes a summary of octets. If no format is known, writes the fields that were read of a rejected certificate, and
+/// reports the reason on `err`. Returns whether a format is known and, if `is_strict`, no rule of RFC 5280 is broken.
 pub(crate) fn show<W: Write, X: Write>(
     alloc: Global,
     options: &Options<'_>,
@@ -37,7 +37,8 @@ pub(crate) fn show<W: Write, X: Write>(
     }
 }
 
-/// Writes words, and reports that a rule of RFC 5280 is broken if that is an error. Returns whether there is none.
+/// Writes a summary. If `is_strict`, reports that a rule of RFC 5280 is broken. Returns whether there was nothing to
+/// report.
 fn write_words<W: Write, X: Write>(
     alloc: Global,
     options: &Options<'_>,
@@ -58,7 +59,7 @@ fn write_words<W: Write, X: Write>(
     Ok(false)
 }
 
-/// Writes words, as an object of JSON if that is asked.
+/// Writes a summary, as a JSON object if the options say so.
 fn put_words<W: Write>(
     alloc: Global,
     options: &Options<'_>,
@@ -75,14 +76,14 @@ fn put_words<W: Write>(
     out.write_all(&words.text)
 }
 
-/// Whether a rule of RFC 5280 is broken, and that is an error.
+/// Whether a rule of RFC 5280 is broken, and the options make that an error.
 fn is_broken(options: &Options<'_>, words: &Words) -> bool
     ensures { result ≡ is_broken options.now words.now }
 {
     options.is_strict && !words.keeps_rules
 }
 
-/// Writes what was read of a certificate that is refused, and reports why octets are nothing that is known.
+/// Writes what was read of a rejected certificate, and reports why no format is known.
 fn refuse<W: Write, X: Write>(
     alloc: Global,
     options: &Options<'_>,
@@ -102,7 +103,7 @@ fn refuse<W: Write, X: Write>(
     Ok(false)
 }
 
-/// What was read of a certificate, in words, by why it is none.
+/// A summary of what was read of a certificate before the error.
 fn text_of_unread(
     alloc: Global,
     present: Option<u64>,
@@ -117,7 +118,7 @@ fn text_of_unread(
     }
 }
 
-/// Writes what was read, or an object of JSON with it and the error if that is asked.
+/// Writes what was read, or a JSON object with that and the error if the options say so.
 fn put_found<W: Write>(
     alloc: Global,
     options: &Options<'_>,
@@ -146,7 +147,7 @@ fn write_found<W: Write>(found: &Option<Vec<u8>>, out: &mut W) -> io::Result<()>
     }
 }
 
-/// Reports where octets aren't elements, or else why they are no certificate, list of revoked certificates or request.
+/// Reports where octets aren't valid BER, or else why they aren't a certificate, CRL or certification request.
 pub(crate) fn report_unknown<X: Write>(
     origin: Origin<'_>,
     octets: &[u8],

@@ -1,4 +1,4 @@
-//! What octets are, in words, as an object of JSON.
+//! The output of `der show` as a JSON object.
 ghost use Rattle.std.specs.Option.{option_copied, option_map, unwrap_or};
 ghost use Rattle.std.specs.Prelude.{◌≡◌, ◌++◌, [], OnOk, codes, drop, take};
 ghost use Rattle.std.specs.Io.KnownBytes.{Appends};
@@ -8,14 +8,14 @@ ghost use Rattle.der_cli.specs.Shown.{AddsError, AddsObject, IsErrorOffset, sour
 
 use crate::show::report_unknown;
 use der_actions::origin::Origin;
+use der_elements::{Rules, Walk};
 use der_show::{Unread, Words};
-use der_walk::{Rules, Walk};
-use show_json::{Source, refused_json, shown_json};
 use std::alloc::Global;
 use std::io;
 use std::io::Write;
+use text_json::shown::{Source, refused_json, shown_json};
 
-/// Writes words as an object of JSON.
+/// Writes a summary as a JSON object.
 pub(crate) fn write_shown<W: Write>(
     alloc: Global,
     origin: Origin<'_>,
@@ -30,7 +30,7 @@ pub(crate) fn write_shown<W: Write>(
     write_line(&object, out)
 }
 
-/// Writes why octets are refused as an object of JSON, with the text that was read before the error.
+/// Writes the error as a JSON object, with the text that was read before it.
 pub(crate) fn write_refused<W: Write>(
     alloc: Global,
     origin: Origin<'_>,
@@ -48,7 +48,7 @@ pub(crate) fn write_refused<W: Write>(
     write_line(&object, out)
 }
 
-/// The lines before the words, and these.
+/// The lines before the summary, and the summary.
 fn parts_of(words: &Words) -> (&[u8], &[u8])
     ensures lines { result.0.now ≡ take words.now.words_at words.now.text.items }
     ensures inside { result.1.now ≡ drop words.now.words_at words.now.text.items }
@@ -60,7 +60,7 @@ fn parts_of(words: &Words) -> (&[u8], &[u8])
     (text, &[])
 }
 
-/// Where an object says that octets are from.
+/// The source of octets, for a JSON object.
 fn source_of(origin: Origin<'_>) -> Source<'_>
     ensures { result ≡ source_of origin.entry }
 {
@@ -78,7 +78,7 @@ fn source_of(origin: Origin<'_>) -> Source<'_>
     }
 }
 
-/// A text that was read. It is empty if there is none.
+/// The text that was read. Empty if there is none.
 fn text_of(found: &Option<Vec<u8>>) -> &[u8]
     ensures { result.now ≡ unwrap_or (text_in found.now) [] }
 {
@@ -88,7 +88,7 @@ fn text_of(found: &Option<Vec<u8>>) -> &[u8]
     }
 }
 
-/// Why octets are refused, as the report says it.
+/// The error, as it is reported.
 fn error_text(
     alloc: Global,
     origin: Origin<'_>,
@@ -104,7 +104,7 @@ fn error_text(
     Ok(String::from_str(alloc, error)?)
 }
 
-/// The offset of the error: of the first element that is refused, or else of the reader that says why.
+/// The offset of the error: that of the first element that isn't valid, or else that of the reader that got furthest.
 fn error_offset(octets: &[u8], unread: Option<&Unread<'_>>) -> Option<usize>
     ensures { IsErrorOffset octets.now (option_copied unread.entry) result }
 {
@@ -115,7 +115,7 @@ fn error_offset(octets: &[u8], unread: Option<&Unread<'_>>) -> Option<usize>
     }
 }
 
-/// The offset of the error of the reader that says why.
+/// The offset of the error of the reader that got furthest.
 fn reader_offset(unread: Option<&Unread<'_>>) -> Option<usize>
     ensures { result ≡ option_map (λ u. offset_of u.refused) (option_copied unread.entry) }
 {
@@ -125,7 +125,7 @@ fn reader_offset(unread: Option<&Unread<'_>>) -> Option<usize>
     }
 }
 
-/// Writes an object and the line's end.
+/// Writes an object and the end of the line.
 fn write_line<W: Write>(object: &str, out: &mut W) -> io::Result<()>
     ensures { OnOk result (Appends (W.contents out.old) (W.contents out.new) (object.now ++ codes "\n")) }
 {

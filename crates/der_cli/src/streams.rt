@@ -1,4 +1,4 @@
-//! The program between its streams.
+//! The program over its streams.
 ghost use Rattle.std.specs.Prelude.{◌≡◌, ◌≢◌, ◌≤◌, ◌↔◌, IfErr, IfOk, IfSome, IsTrue, Some};
 ghost use Rattle.std.specs.Prelude.{codes};
 ghost use Rattle.std.specs.IoError.{error_kind};
@@ -33,8 +33,9 @@ use std::rt::Files;
 use std::time::Clock;
 use std::{env, io};
 
-/// Does what the arguments ask for. Returns 0 if each input was read to its end, 1 if one is refused or can't
-/// be read or written, 2 for other arguments, and 141 if what reads the output was closed.
+/// Runs the program with its arguments. Returns 0 if each input was accepted, 1 if one was rejected or can't be read or
+/// written, 2 if the arguments are wrong, and 141 if the reader of the output closed it. `diff` returns 1 if the files
+/// differ, and 2 if one can't be read.
 pub fn program<
     R: Env + Files + Clock + AllocGlobal + Clone + Drop,
     I: Read + Drop,
@@ -50,7 +51,7 @@ pub fn program<
     ExitCode::from(status)
 }
 
-/// The status after an error, which is reported unless it is a closed pipe.
+/// The exit status after an error. It is reported unless it is a closed pipe.
 fn status_after<X: Write>(e: io::Error, err: &mut X) -> u8
     ensures closed { error_kind e ≡ ErrorKind.BrokenPipe → result ≡ 141 }
     ensures refused { error_kind e ≢ ErrorKind.BrokenPipe → result ≡ 1 }
@@ -78,7 +79,7 @@ fn start<
     run_found(rt, found, input, out, err, is_terminal)
 }
 
-/// Does what is asked for, or says what is wrong with the command line.
+/// Runs the subcommand, or tells what is wrong with the command line.
 fn run_found<
     R: Env + Files + Clock + AllocGlobal + Clone + Drop,
     I: Read + Drop,
@@ -100,7 +101,7 @@ fn run_found<
     }
 }
 
-/// Says what is wrong with a command line, or what help it asks for.
+/// Tells what is wrong with a command line, or prints the help.
 fn tell<W: Write + Drop, X: Write>(e: &clap::Error, mut out: W, err: &mut X) -> io::Result<u8>
     ensures { IfOk result (λ status. status ≤ 2) }
 {
@@ -138,7 +139,7 @@ fn run_subcommand<
     Ok(status)
 }
 
-/// Reads the table of names that is asked for, and runs the subcommand with this name.
+/// Reads the table of names, if there is one, and runs the subcommand with this name.
 fn run_with_table<R: Files + Clock + AllocGlobal + Clone + Drop, I: Read, W: Write, X: Write>(
     rt: &R,
     name: &str,
@@ -156,7 +157,7 @@ fn run_with_table<R: Files + Clock + AllocGlobal + Clone + Drop, I: Read, W: Wri
     }
 }
 
-/// Runs the subcommand with this name, by the text of a table of names.
+/// Runs the subcommand with this name, with the text of a table of names.
 fn run_by_table<R: Files + Clock + AllocGlobal + Clone + Drop, I: Read, W: Write, X: Write>(
     rt: &R,
     name: &str,
@@ -200,7 +201,7 @@ fn run_named<'n, 't, R: Files + Clock + AllocGlobal + Clone + Drop, I: Read, W: 
     Ok(status_of(are_read))
 }
 
-/// Runs an action over the files of its subcommand, or reports that a type that is asked for isn't known.
+/// Runs an action on the files of its subcommand, or reports that the type isn't known.
 fn run_action<'n, 't, R: Files + Clock + AllocGlobal + Clone + Drop, I: Read, W: Write, X: Write>(
     rt: &R,
     action: Action,
@@ -229,7 +230,7 @@ fn run_action<'n, 't, R: Files + Clock + AllocGlobal + Clone + Drop, I: Read, W:
     Ok(status_of(are_read))
 }
 
-/// Runs over the files of a subcommand, or over the standard input.
+/// Runs the action on the files of a subcommand, or on standard input.
 fn run_inputs<R: Files + AllocGlobal + Clone + Drop, I: Read, W: Write, X: Write>(
     rt: &R,
     options: &Options<'_>,
@@ -247,7 +248,7 @@ fn run_inputs<R: Files + AllocGlobal + Clone + Drop, I: Read, W: Write, X: Write
     }
 }
 
-/// Runs over what a reader gives.
+/// Runs the action on standard input.
 fn run_reader<I: Read, W: Write, X: Write>(
     alloc: Global,
     options: &Options<'_>,

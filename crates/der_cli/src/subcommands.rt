@@ -1,21 +1,21 @@
 //! The subcommands and their arguments, as the help prints them.
 
-/// What is given for an argument.
+/// The kind of an argument.
 #[derive(Clone, Copy)]
 pub(crate) enum Kind {
-    /// Its name alone, as `--der`.
+    /// A name alone, such as `--der`.
     Flag,
-    /// Its name and a number.
+    /// A name and a number.
     Number,
-    /// Its name and a word.
+    /// A name and a word.
     Word,
-    /// Its name and a form of inputs.
+    /// A name and the form of an input.
     Form,
-    /// A word at its place, which may be absent.
+    /// An optional word without a name.
     File,
-    /// Any number of words.
+    /// Any number of words without a name.
     Files,
-    /// A word at its place.
+    /// A word without a name.
     Required,
 }
 
@@ -23,13 +23,13 @@ pub(crate) enum Kind {
 #[derive(Clone, Copy)]
 pub(crate) struct Argument {
     pub name: &'static str,
-    /// The letter that stands for its name.
+    /// The letter that may be used for the name.
     pub letter: Option<char>,
-    /// What the help calls its value.
+    /// The name of its value in the help.
     pub value: Option<&'static str>,
     pub help: &'static str,
     pub kind: Kind,
-    /// The argument beside which it may not be given.
+    /// The argument that excludes this one.
     pub conflict: Option<&'static str>,
 }
 
@@ -37,101 +37,157 @@ pub(crate) struct Argument {
 #[derive(Clone, Copy)]
 pub(crate) struct Subcommand {
     pub name: &'static str,
-    /// What it does.
+    /// What it does, for the help.
     pub about: &'static str,
-    /// What its help says after the arguments.
+    /// Further text at the end of its help.
     pub notes: Option<&'static str>,
     pub arguments: &'static [Argument],
 }
 
 /// The subcommands, in the order of the help.
-pub(crate) static SUBCOMMANDS: [Subcommand; 9] = [
-    Subcommand {
-        name: "tree",
-        about: "Print a line for each element, with its offset, lengths, type and value",
-        notes: Some(PATH_NOTES),
-        arguments: &[
-            DER, AS, NAMES, FULL, WIDTH, DEPTH, OFFSET, PATH, NO_INSIDE, RECURSIVE, FROM, FILES,
-        ],
-    },
-    Subcommand {
-        name: "show",
-        about: "Print certificates, keys, requests and messages in words",
-        notes: Some(SHOW_NOTES),
-        arguments: &[JSON, STRICT, NOW, RECURSIVE, FROM, FILES],
-    },
-    Subcommand {
-        name: "check",
-        about: "Print a line for each file that isn't DER",
-        notes: None,
-        arguments: &[BER, AS_TYPE, QUIET, RECURSIVE, FROM, FILES],
-    },
-    Subcommand {
-        name: "canon",
-        about: "Write a file of BER as DER",
-        notes: Some(CANON_NOTES),
-        arguments: &[FROM, FILE],
-    },
-    Subcommand {
-        name: "json",
-        about: "Print a line of JSON for each element",
-        notes: Some(JSON_NOTES),
-        arguments: &[
-            DER, AS, NAMES, OCTETS, DEPTH, OFFSET, PATH, NO_INSIDE, RECURSIVE, FROM, FILES,
-        ],
-    },
-    Subcommand {
-        name: "get",
-        about: "Write the octets of an element, of the first one with the path",
-        notes: Some(PATH_NOTES),
-        arguments: &[CONTENT, DER, AS, FROM, GIVEN_FILE, PLACE],
-    },
-    Subcommand {
-        name: "diff",
-        about: "Print the elements in which two files differ",
-        notes: Some(DIFF_NOTES),
-        arguments: &[DER, NAMES, FULL, WIDTH, NO_INSIDE, FROM, FIRST, SECOND],
-    },
-    Subcommand {
-        name: "text",
-        about: "Write a text of a file, of which octets makes the same file",
-        notes: Some(TEXT_NOTES),
-        arguments: &[FROM, FILE],
-    },
-    Subcommand {
-        name: "octets",
-        about: "Write the octets of such a text",
-        notes: None,
-        arguments: &[FILE],
-    },
-];
+pub(crate) fn subcommands() -> [&'static Subcommand; 9] {
+    [
+        tree(),
+        show(),
+        check(),
+        canon(),
+        json(),
+        get(),
+        diff(),
+        text(),
+        octets(),
+    ]
+}
+
+static TREE_COMMAND: Subcommand = Subcommand {
+    name: "tree",
+    about: "Print a line for each element, with its offset, lengths, type and value",
+    notes: Some(PATH_NOTES),
+    arguments: &[
+        DER, AS, NAMES, FULL, WIDTH, DEPTH, OFFSET, PATH, NO_INSIDE, RECURSIVE, FROM, FILES,
+    ],
+};
+
+fn tree() -> &'static Subcommand {
+    &TREE_COMMAND
+}
+
+static SHOW_COMMAND: Subcommand = Subcommand {
+    name: "show",
+    about: "Print a summary of certificates, CRLs, CSRs, keys and messages",
+    notes: Some(SHOW_NOTES),
+    arguments: &[JSON, STRICT, NOW, RECURSIVE, FROM, FILES],
+};
+
+fn show() -> &'static Subcommand {
+    &SHOW_COMMAND
+}
+
+static CHECK_COMMAND: Subcommand = Subcommand {
+    name: "check",
+    about: "Print a line for each file that isn't DER",
+    notes: None,
+    arguments: &[BER, AS_TYPE, QUIET, RECURSIVE, FROM, FILES],
+};
+
+fn check() -> &'static Subcommand {
+    &CHECK_COMMAND
+}
+
+static CANON_COMMAND: Subcommand = Subcommand {
+    name: "canon",
+    about: "Convert a BER file to DER",
+    notes: Some(CANON_NOTES),
+    arguments: &[FROM, FILE],
+};
+
+fn canon() -> &'static Subcommand {
+    &CANON_COMMAND
+}
+
+static JSON_COMMAND: Subcommand = Subcommand {
+    name: "json",
+    about: "Print a line of JSON for each element",
+    notes: Some(JSON_NOTES),
+    arguments: &[
+        DER, AS, NAMES, OCTETS, DEPTH, OFFSET, PATH, NO_INSIDE, RECURSIVE, FROM, FILES,
+    ],
+};
+
+fn json() -> &'static Subcommand {
+    &JSON_COMMAND
+}
+
+static GET_COMMAND: Subcommand = Subcommand {
+    name: "get",
+    about: "Write the octets of the first element at a path or offset",
+    notes: Some(PATH_NOTES),
+    arguments: &[CONTENT, DER, AS, FROM, GIVEN_FILE, PLACE],
+};
+
+fn get() -> &'static Subcommand {
+    &GET_COMMAND
+}
+
+static DIFF_COMMAND: Subcommand = Subcommand {
+    name: "diff",
+    about: "Print the elements that differ between two files",
+    notes: Some(DIFF_NOTES),
+    arguments: &[DER, NAMES, FULL, WIDTH, NO_INSIDE, FROM, FIRST, SECOND],
+};
+
+fn diff() -> &'static Subcommand {
+    &DIFF_COMMAND
+}
+
+static TEXT_COMMAND: Subcommand = Subcommand {
+    name: "text",
+    about: "Write a file as text to edit; octets turns it back",
+    notes: Some(TEXT_NOTES),
+    arguments: &[FROM, FILE],
+};
+
+fn text() -> &'static Subcommand {
+    &TEXT_COMMAND
+}
+
+static OCTETS_COMMAND: Subcommand = Subcommand {
+    name: "octets",
+    about: "Write the octets of a text that text wrote",
+    notes: None,
+    arguments: &[FILE],
+};
+
+fn octets() -> &'static Subcommand {
+    &OCTETS_COMMAND
+}
 
 const SHOW_NOTES: &str = "\
-It knows certificates, their requests and revocation lists, keys, and messages
-of SNMP, LDAP and Kerberos. No signature is verified.
-docs/show-json.schema.json says what the members of --json are.";
+Summarizes certificates, CRLs, CSRs, keys, and messages of SNMP, LDAP and
+Kerberos. Other known types are printed as a tree. Signatures aren't verified.
+docs/show-json.schema.json describes the members of --json.";
 
 const CANON_NOTES: &str = "\
-PEM stays PEM. What depends on types that the file doesn't name stays as it is:
-the order of a SET OF, default values, strings under a tag of their own.
-What has no form in DER is an error, and nothing is written.";
+PEM stays PEM. These stay as they are, since they depend on the ASN.1 type: the
+order of a SET OF, default values, and strings under an implicit tag.
+If an element has no DER encoding, nothing is written and the status is 1.";
 
 const PATH_NOTES: &str = "\
-A path has names of fields, as tbsCertificate.extensions[2].extnValue,
-or types, as SEQUENCE[0].INTEGER[1].";
+A path has names of fields, such as tbsCertificate.extensions[2].extnValue,
+or types, such as SEQUENCE[0].INTEGER[1].";
 
 const JSON_NOTES: &str = "\
-docs/der-json.schema.json says what the members are: path and field_path
-are paths that --path takes.";
+docs/der-json.schema.json describes the members. --path takes the values of
+path and field_path.";
 
 const DIFF_NOTES: &str = "\
-Elements are paired by their path. Offsets and the octets of headers aren't compared.
-The status is 0 if the elements are the same, 1 if they differ, 2 if a file isn't read.";
+Elements with the same path are compared, without offsets and length octets.
+The status is 0 if the elements are the same, 1 if they differ, 2 on an error.";
 
 const TEXT_NOTES: &str = "\
-The text keeps the form of each length. docs/TEXT.md says how it is written.";
+The text keeps the form of each length. docs/TEXT.md describes the grammar.";
 
-/// A flag without a name.
+/// A flag without a name, from which others are made.
 const FLAG: Argument = Argument {
     name: "",
     letter: None,
@@ -143,33 +199,33 @@ const FLAG: Argument = Argument {
 
 const DER: Argument = Argument {
     name: "der",
-    help: "Read by DER, not by BER",
+    help: "Read as DER (default: BER)",
     ..FLAG
 };
 
 const BER: Argument = Argument {
     name: "ber",
-    help: "Read by BER, not by DER",
+    help: "Read as BER (default: DER)",
     ..FLAG
 };
 
 const AS: Argument = Argument {
     name: "as",
     value: Some("TYPE"),
-    help: "Name fields by this type, as Certificate; or auto, or none",
+    help: "Type that names the fields, or none (default: auto)",
     kind: Kind::Word,
     ..FLAG
 };
 
 const AS_TYPE: Argument = Argument {
-    help: "Check that it is of this type too, as Certificate",
+    help: "Also check the type, such as Certificate",
     ..AS
 };
 
 const NAMES: Argument = Argument {
     name: "names",
     value: Some("FILE"),
-    help: "Name identifiers by lines of this file, as 1.2.3 ours",
+    help: "Names of object identifiers, in lines such as 1.2.3 ours",
     kind: Kind::Word,
     ..FLAG
 };
@@ -177,13 +233,13 @@ const NAMES: Argument = Argument {
 const QUIET: Argument = Argument {
     name: "quiet",
     letter: Some('q'),
-    help: "Say it by the status alone: 0 if all are DER, else 1",
+    help: "Print nothing; the status is 0 if all are valid, else 1",
     ..FLAG
 };
 
 const STRICT: Argument = Argument {
     name: "strict",
-    help: "End with status 1 if a rule of RFC 5280 is broken",
+    help: "Exit with 1 if a rule of RFC 5280 is broken",
     ..FLAG
 };
 
@@ -201,30 +257,30 @@ const OCTETS: Argument = Argument {
 
 const CONTENT: Argument = Argument {
     name: "content",
-    help: "Write its content, without its header",
+    help: "Write the content only, without the header",
     ..FLAG
 };
 
 const FULL: Argument = Argument {
     name: "full",
-    help: "Print long values whole",
+    help: "Print long values in full",
     conflict: Some("width"),
     ..FLAG
 };
 
 const NO_INSIDE: Argument = Argument {
     name: "no-inside",
-    help: "Print strings that hold DER as octets",
+    help: "Don't look for elements inside strings",
     ..FLAG
 };
 
-/// Its first line is also what completions say of the option.
+/// The help of `--recursive`. Completions show its first line.
 const RECURSIVE_HELP: &str = "\
-Read all files in folders, and those that links name.
+Read all files in folders, also through links.
 A file with several names is read once. Links to folders,
-broken links, pipes, sockets and devices are skipped, and
-named on standard error. The status is 1 if a folder can't
-be read, or if there is no file.";
+broken links, pipes, sockets and devices are skipped with
+a note on standard error. The status is 1 if a folder
+can't be read or has no file.";
 
 const RECURSIVE: Argument = Argument {
     name: "recursive",
@@ -236,7 +292,7 @@ const RECURSIVE: Argument = Argument {
 const WIDTH: Argument = Argument {
     name: "width",
     value: Some("N"),
-    help: "Cut lines to N columns, or none with 0",
+    help: "Cut lines to N columns (0: don't cut)",
     kind: Kind::Number,
     ..FLAG
 };
@@ -244,7 +300,7 @@ const WIDTH: Argument = Argument {
 const DEPTH: Argument = Argument {
     name: "depth",
     value: Some("N"),
-    help: "Print no element with more than N around it",
+    help: "Print elements at most N levels deep",
     kind: Kind::Number,
     ..FLAG
 };
@@ -252,7 +308,7 @@ const DEPTH: Argument = Argument {
 const OFFSET: Argument = Argument {
     name: "offset",
     value: Some("N"),
-    help: "Print the element that begins at N, and those inside it",
+    help: "Print the element at offset N and those inside it",
     kind: Kind::Number,
     conflict: Some("path"),
     ..FLAG
@@ -261,7 +317,7 @@ const OFFSET: Argument = Argument {
 const NOW: Argument = Argument {
     name: "now",
     value: Some("N"),
-    help: "Take as the present N seconds after 1970",
+    help: "Current time as Unix seconds (default: the clock)",
     kind: Kind::Number,
     ..FLAG
 };
@@ -269,7 +325,7 @@ const NOW: Argument = Argument {
 const PATH: Argument = Argument {
     name: "path",
     value: Some("PATH"),
-    help: "Print the elements with this path, and those inside them",
+    help: "Print the elements at this path and those inside them",
     kind: Kind::Word,
     ..FLAG
 };
@@ -277,7 +333,7 @@ const PATH: Argument = Argument {
 const FROM: Argument = Argument {
     name: "from",
     value: Some("FORM"),
-    help: "Read as der, pem, hex or base64, not as a look finds",
+    help: "Form: der, pem, hex or base64 (default: detected)",
     kind: Kind::Form,
     ..FLAG
 };
@@ -285,7 +341,7 @@ const FROM: Argument = Argument {
 const FILE: Argument = Argument {
     name: "file",
     value: Some("FILE"),
-    help: "A file, or - for standard input",
+    help: "File, or - for standard input",
     kind: Kind::File,
     ..FLAG
 };
@@ -296,7 +352,7 @@ const GIVEN_FILE: Argument = Argument {
 };
 
 const FILES: Argument = Argument {
-    help: "Files, or - for standard input, as if there are none",
+    help: "Files (default: -, standard input)",
     kind: Kind::Files,
     ..FILE
 };
@@ -308,13 +364,13 @@ const FIRST: Argument = Argument {
 
 const SECOND: Argument = Argument {
     name: "second",
-    help: "The file that it is compared with",
+    help: "File to compare with",
     ..GIVEN_FILE
 };
 
 const PLACE: Argument = Argument {
     name: "place",
     value: Some("PATH|@OFFSET"),
-    help: "Its path, or where it begins",
+    help: "Path or offset of the element",
     ..GIVEN_FILE
 };

@@ -1,10 +1,10 @@
-//! How many files a check refuses.
+//! The count of files that a check rejects.
 use der_actions::options::{Naming, Options};
-use der_walk::Rules;
+use der_elements::Rules;
 use std::io::Write;
 use std::{fmt, io};
 
-/// What a check asks of files, as `DER`, or as `DER of Certificate`.
+/// What a check asks of files, such as `DER`, or `DER of Certificate`.
 #[derive(Clone, Copy)]
 struct Asked<'a> {
     rules: Rules,
@@ -24,18 +24,18 @@ impl fmt::Display for Asked<'_> {
     }
 }
 
-/// How many files there are, and how many of them are refused or can't be read.
+/// The number of files, and how many of them were rejected or can't be read.
 #[derive(Clone, Copy)]
 pub(crate) struct Summary {
     files: usize,
     refused: usize,
     unread: usize,
-    /// Whether all folders were read to their end.
+    /// Whether all folders were read to their end and contain a file.
     is_whole: bool,
 }
 
 impl Summary {
-    /// Before the first file.
+    /// The count before the first file.
     pub(crate) fn new(is_whole: bool) -> Summary {
         Summary {
             files: 0,
@@ -45,7 +45,7 @@ impl Summary {
         }
     }
 
-    /// Counts a file, which was read or refused.
+    /// Counts a file that was read, and was accepted or not.
     pub(crate) fn add(&mut self, is_read: bool) {
         self.files = self.files.saturating_add(1);
         if !is_read {
@@ -59,17 +59,12 @@ impl Summary {
         self.unread = self.unread.saturating_add(1);
     }
 
-    /// Whether there is no file.
-    pub(crate) fn is_empty(&self) -> bool {
-        self.files == 0
-    }
-
-    /// Whether there is a file, and all were read.
+    /// Whether there is a file, and all were accepted.
     pub(crate) fn is_good(&self) -> bool {
         self.files > 0 && self.refused == 0 && self.unread == 0 && self.is_whole
     }
 
-    /// Writes it, as `12 files, 2 aren't DER`.
+    /// Writes the count, such as `12 files, 2 aren't DER`.
     pub(crate) fn write<W: Write>(&self, options: &Options<'_>, out: &mut W) -> io::Result<()> {
         let asked = Asked {
             rules: options.rules,
@@ -90,7 +85,7 @@ impl Summary {
             write!(out, ", {} can't be read", self.unread)?;
         }
         if !self.is_whole {
-            write!(out, ", some folders can't be read")?;
+            write!(out, ", some folders have no file or can't be read")?;
         }
         writeln!(out, "")
     }

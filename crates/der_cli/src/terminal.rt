@@ -1,15 +1,15 @@
-//! How lines are written.
+//! The style of lines, by the terminal.
 ghost use Rattle.std.specs.Prelude.{◌≡◌, ◌↔◌, IfErr, IfOk, IsTrue, codes, false, nat_lt, string_bytes, string_len};
 
 use der_print::{Limit, Style};
 use std::env;
 use std::env::{Env, VarError};
 
-/// The columns of a terminal that doesn't say how many it has.
+/// The width of a terminal that doesn't tell it.
 const COLUMNS: usize = 80;
 
-/// How lines are written: on a terminal as wide as `COLUMNS` says, or in 80 columns, and in colours, unless `NO_COLOR`
-/// is set, or `TERM` is `dumb`.
+/// The style of lines. On a terminal they are as wide as `COLUMNS` says, or 80 columns. There they are in colours,
+/// unless `NO_COLOR` is set or `TERM` is `dumb`.
 pub(crate) fn style_of<R: Env + AllocGlobal>(rt: &R, is_terminal: bool) -> Style
     ensures limit { is_terminal ≡ false → result.limit ≡ Limit.Front }
     ensures colours { is_terminal ≡ false → result.colours ≡ false }
@@ -26,7 +26,7 @@ pub(crate) fn style_of<R: Env + AllocGlobal>(rt: &R, is_terminal: bool) -> Style
     }
 }
 
-/// Whether the environment has a variable, and not as an empty text.
+/// Whether the environment has a variable that isn't empty.
 fn is_set(variable: Result<String, VarError>) -> bool
     ensures set { IfOk variable (λ text. result ≡ nat_lt 0 (string_len text)) }
     ensures none { IfErr variable (λ _. result ≡ false) }
@@ -37,7 +37,7 @@ fn is_set(variable: Result<String, VarError>) -> bool
     }
 }
 
-/// Whether a terminal of this name has no colours.
+/// Whether a terminal with this name has no colours.
 fn is_dumb(name: Result<String, VarError>) -> bool
     ensures dumb { IfOk name (λ text. IsTrue result ↔ (string_bytes text ≡ codes "dumb")) }
     ensures none { IfErr name (λ _. result ≡ false) }
@@ -48,7 +48,7 @@ fn is_dumb(name: Result<String, VarError>) -> bool
     }
 }
 
-/// The width of the terminal, if the environment says it, as a number above 0. The kit has no call for it.
+/// The width of the terminal, if the environment has it as a number above 0. The toolchain has no call for it.
 fn columns<R: Env + AllocGlobal>(rt: &R) -> Option<usize> {
     let text = env::var(rt, "COLUMNS").ok()?;
     match text.as_str().trim().parse::<usize>() {

@@ -9,8 +9,8 @@ use Rattle.der_base.specs.Containers.{Answered}
 use Rattle.der_base.specs.Inner.Taken.{Gave, Takes, one_more, ended, refused as refused_item}
 use Rattle.der_base.specs.ListSteps.{Calls, one_more as one_call_more, LastCall, at_end as list_at_end, left_over, refused, failed, out_of_memory, stuck, no_room, taken}
 use Rattle.der_base.specs.SetOfOrder.{Descends, DescendsAtEnd, IsAscending, OrderedSteps, in_order as steps_in_order, out_of_order as steps_out_of_order}
-use Rattle.der_laws.proofs.Containers.SetOfOrders.{descends_greater}
-use Rattle.der_laws.proofs.Containers.TakenLaws.{taken_on, taken_end, taken_refused}
+use Rattle.der_values.proofs.LawsLaws.Containers.SetOfOrders.{descends_greater}
+use Rattle.der_values.proofs.LawsLaws.Containers.TakenLaws.{taken_on, taken_end, taken_refused}
 use Rattle.der_combinators.specs.declared.list_type.ListType.{ListType}
 use Rattle.der_combinators.specs.declared.list_type.ListType.TheVariants.{Sequence, Set}
 use Rattle.der_combinators.specs.Lists.{ItemSteps}

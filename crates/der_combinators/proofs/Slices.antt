@@ -11,8 +11,8 @@ use Rattle.der_base.specs.Containers.{faulty, cut, too_short}
 use Rattle.der_base.specs.Header.{class_of, is_constructed, number_of}
 use Rattle.der_base.specs.Refusal.{Refusal, unexpected_tag}
 use Rattle.der_base.proofs.Answers.Exactness.{ShowsOne}
-use Rattle.der_laws.proofs.Containers.ContainerLaws.{element_same, opens_element, element_not_faulty, element_not_lacking, element_not_short}
-use Rattle.der_laws.proofs.Containers.ContainerLaws.{short_not_faulty, short_not_lacking, faulty_not_lacking, fault_same, lack_same}
+use Rattle.der_values.proofs.LawsLaws.Containers.ContainerLaws.{element_same, opens_element, element_not_faulty, element_not_lacking, element_not_short}
+use Rattle.der_values.proofs.LawsLaws.Containers.ContainerLaws.{short_not_faulty, short_not_lacking, faulty_not_lacking, fault_same, lack_same}
 use Rattle.der_combinators.specs.Slices.{ReadsSlice, SliceRefuses, slice_value_of}
 
 -- an element of the number that is opened

@@ -24,7 +24,7 @@ impl<F> Model for Container<F> {
     ghost view = { λ c. (c.rules, c.f) };
 }
 
-/// A parser by BER of an element of any tag, which hands its content and its header to `f`.
+/// A BER parser of an element with any tag. `f` gets its content and header.
 pub fn parse_ber_container<'a, F, O, E>(f: F) -> Container<F>
 where
     F: FnMut(&'a [u8], Header<'a>) -> IResult<&'a [u8], O, E>,
@@ -36,7 +36,7 @@ where
     }
 }
 
-/// A parser by DER of an element of any tag, which hands its content and its header to `f`.
+/// A DER parser of an element with any tag. `f` gets its content and header.
 pub fn parse_der_container<'a, F, O, E>(f: F) -> Container<F>
 where
     F: FnMut(&'a [u8], Header<'a>) -> IResult<&'a [u8], O, E>,
@@ -49,16 +49,14 @@ where
 }
 
 impl<F> Container<F> {
-    /// Reads an element by the rules, calls the kept parser once, on exactly the content octets and the
-    /// header, and returns what the parser returns. What the parser leaves of the content is dropped:
-    /// the rest of an Ok is what follows the element. By BER the length may be definite or indefinite
-    /// (X.690 8.1.3), as the header says, and an end marker is no part of the content. The form of the
-    /// content isn't checked. It allocates nothing.
+    /// Reads an element by the rules. Calls the kept parser once, on exactly the content octets and the header, and
+    /// returns its result. The rest of an Ok is what follows the element; what the parser leaves of the content is
+    /// dropped. By BER the length may be definite or indefinite (X.690 8.1.3), and end-of-contents octets are no part
+    /// of the content. The content isn't checked. It allocates nothing.
     ///
     /// Errors, without a call of the parser: by BER those of `Any::from_ber`, by DER those of
-    /// `der_read_element_header`, and where a definite content is cut short, the Error of Eof at the
-    /// octets after the header. Incomplete where the input ends within a header, or within the content
-    /// of an indefinite length.
+    /// `der_read_element_header`; if a definite content is cut short, the Error of Eof at the octets after the header.
+    /// Incomplete if the input ends within a header, or within the content of an indefinite length.
     #[inline(always)]
     pub fn parse<'a, O, E>(&mut self, i: &'a [u8]) -> IResult<&'a [u8], O, E>
     where
@@ -91,8 +89,7 @@ impl<F> Model for NumberedContainer<F> {
     ghost view = { λ c. ((c.rules, c.tag.0), c.f) };
 }
 
-/// A parser by BER of an element of the tag number 16, SEQUENCE, which hands its content and its
-/// header to `f`.
+/// A BER parser of an element with tag number 16, SEQUENCE. `f` gets its content and header.
 pub fn parse_ber_sequence_defined_g<'a, F, O, E>(f: F) -> NumberedContainer<F>
 where
     F: FnMut(&'a [u8], Header<'a>) -> IResult<&'a [u8], O, E>,
@@ -105,8 +102,7 @@ where
     }
 }
 
-/// A parser by BER of an element of the tag number 17, SET, which hands its content and its header
-/// to `f`.
+/// A BER parser of an element with tag number 17, SET. `f` gets its content and header.
 pub fn parse_ber_set_defined_g<'a, F, O, E>(f: F) -> NumberedContainer<F>
 where
     F: FnMut(&'a [u8], Header<'a>) -> IResult<&'a [u8], O, E>,
@@ -119,8 +115,7 @@ where
     }
 }
 
-/// A parser by DER of an element of the tag number 16, SEQUENCE, which hands its content and its
-/// header to `f`.
+/// A DER parser of an element with tag number 16, SEQUENCE. `f` gets its content and header.
 pub fn parse_der_sequence_defined_g<'a, F, O, E>(f: F) -> NumberedContainer<F>
 where
     F: FnMut(&'a [u8], Header<'a>) -> IResult<&'a [u8], O, E>,
@@ -133,8 +128,7 @@ where
     }
 }
 
-/// A parser by DER of an element of the tag number 17, SET, which hands its content and its header
-/// to `f`.
+/// A DER parser of an element with tag number 17, SET. `f` gets its content and header.
 pub fn parse_der_set_defined_g<'a, F, O, E>(f: F) -> NumberedContainer<F>
 where
     F: FnMut(&'a [u8], Header<'a>) -> IResult<&'a [u8], O, E>,
@@ -148,8 +142,8 @@ where
 }
 
 impl<F> NumberedContainer<F> {
-    /// Reads as `Container::parse` an element of the number, of any class, constructed or not. Another
-    /// number is UnexpectedTag, after the errors of `Container::parse`, without a call of the parser.
+    /// `Container::parse` for an element with the tag number, of any class, primitive or constructed. Another number is
+    /// UnexpectedTag, after the errors of `Container::parse`, without a call of the parser.
     #[inline(always)]
     pub fn parse<'a, O, E>(&mut self, i: &'a [u8]) -> IResult<&'a [u8], O, E>
     where

@@ -1,4 +1,4 @@
-//! One item of a list: what its parser returned is an item more, or the list ends (X.690 8.10, 8.12).
+//! One item of a list: the result of its parser is a further item, or ends the list (X.690 8.10, 8.12).
 ghost use Rattle.std.specs.Prelude.{◌≡◌, IfErr, IfOk};
 ghost use Rattle.der_base.specs.SetOfOrder.{Descends};
 ghost use Rattle.der_combinators.specs.Inner.InOrder.{IsOutOfOrder, TakesInOrder, octets_compared};
@@ -9,11 +9,12 @@ use der_base::rules::Rules;
 use der_base::set_of_order::descends;
 use der_object::growth::push_item;
 
-/// Pushes the item that the parser returned on `input`, and returns the octets after it, or None
-/// where the list ends. The list ends where the parser returned Incomplete: octets that are left then
-/// are the Error of Eof. An Error becomes a Failure. A Failure and OutOfMemory pass. A rest that isn't
-/// shorter than the input is the Error of Many0. An item whose octets are less than those `before` is
-/// the Error SetOfOrder, and allocates nothing.
+/// Pushes the item that the parser returned on `input`, and returns the octets after it. None if the list ends: the
+/// parser returned Incomplete and no octets are left.
+///
+/// Errors: that of Eof if the parser returned Incomplete and octets are left; that of Many0 if it took no octets;
+/// SetOfOrder if the item is less than the octets `before`, without an allocation. An Error of the parser becomes a
+/// Failure. Failure and OutOfMemory are returned as they are.
 #[inline(always)]
 pub fn take_item<'a, O, E>(
     before: &[u8],
@@ -48,8 +49,8 @@ where
     }
 }
 
-/// The octets that the next item is compared with: by DER, in a SET OF, those of this item (X.690
-/// 11.6). Elsewhere there are none, and no item is less than none.
+/// The octets that the next item is compared with: by DER, in a SET OF, those of this item (X.690 11.6). Otherwise
+/// there are none, and no item is less than none.
 #[inline(always)]
 pub fn compared_octets<'a>(rules: Rules, list: ListType, item: &'a [u8]) -> &'a [u8]
     ensures { result.now ≡ octets_compared rules list item.now }
@@ -63,7 +64,7 @@ pub fn compared_octets<'a>(rules: Rules, list: ListType, item: &'a [u8]) -> &'a 
     }
 }
 
-/// Refuses an item whose octets are less than those of the item before it.
+/// Rejects an item that is less than the octets of the item before it.
 #[inline(always)]
 fn check_order<E>(before: &[u8], item: &[u8]) -> Result<(), Err<E>>
 where

@@ -1,7 +1,6 @@
-//! The items of the element that was opened: the parser of one item is called again and again (X.690
-//! 8.10, 8.12). By DER the items of a SET OF ascend (11.6). There are two loops, one for values of any
-//! type and one for objects: a parser whose result names a lifetime doesn't fit a bound on parsers of
-//! any result.
+//! The items of the element that was opened: the parser of one item is called again and again (X.690 8.10, 8.12). By
+//! DER the items of a SET OF ascend (11.6). There are two loops, one for values of any type and one for objects: a
+//! parser whose result names a lifetime doesn't fit a bound on parsers of any result.
 ghost use Rattle.std.specs.Prelude.{IfErr, IfOk, Result};
 ghost use Rattle.der_base.specs.Containers.{ContainerRun};
 ghost use Rattle.der_base.specs.Inner.Opened.{IsOpened, IsUnopened};
@@ -15,9 +14,8 @@ use der_base::rules::Rules;
 use der_object::BerObject;
 use std::alloc::Global;
 
-/// Calls `f` on the content of an element that was opened, and again on what each call leaves.
-/// Returns the values in their order. By DER the values of a SET OF ascend. Where no element was
-/// opened, it returns that error.
+/// Calls `f` on the content of the opened element, and again on what each call leaves. Returns the values in their
+/// order. By DER the values of a SET OF ascend. If no element was opened, it returns that error.
 #[inline(always)]
 pub fn parse_items<'a, F, O, E>(
     rules: Rules,
@@ -45,7 +43,7 @@ where
     }
 }
 
-/// The same where `f` returns objects.
+/// `parse_items` for an `f` that returns objects.
 #[inline(always)]
 pub fn parse_objects<'a, F, E>(
     rules: Rules,
@@ -101,7 +99,7 @@ where
     Ok(values)
 }
 
-/// The same where `f` returns objects.
+/// `read_items` for an `f` that returns objects.
 fn read_objects<'a, F, E>(
     rules: Rules,
     list: ListType,

@@ -25,7 +25,7 @@ pub use lists::{
     parse_der_set_defined, parse_der_set_of, parse_der_set_of_v,
 };
 pub use slice::{parse_ber_slice, parse_der_slice};
-/// An object that may be absent is read alike by BER and by DER: the parser that is kept decides.
+/// Optional objects are read alike by BER and by DER: the kept parser decides.
 pub use tagged::{
     ExplicitContainer, ExplicitObject, ImplicitContainer, ImplicitObject, OptionalObject,
     parse_ber_explicit_optional, parse_ber_implicit, parse_ber_optional,

@@ -33,8 +33,7 @@ impl<F> Model for ListOfValues<F> {
     ghost view = { λ c. ((c.rules, c.list), c.f) };
 }
 
-/// A parser by BER of an element of the tag number 16, SEQUENCE, which reads its content by `f`,
-/// value after value (X.690 8.10).
+/// A BER parser of an element with tag number 16, SEQUENCE. `f` reads its content, value after value (X.690 8.10).
 pub fn parse_ber_sequence_of_v<'a, F, O, E>(alloc: Global, f: F) -> ListOfValues<F>
 where
     F: FnMut(&'a [u8]) -> IResult<&'a [u8], O, E>,
@@ -43,8 +42,7 @@ where
     ListOfValues::new(Rules::Ber, ListType::Sequence, f, alloc)
 }
 
-/// A parser by BER of an element of the tag number 17, SET, which reads its content by `f`,
-/// value after value (X.690 8.12).
+/// A BER parser of an element with tag number 17, SET. `f` reads its content, value after value (X.690 8.12).
 pub fn parse_ber_set_of_v<'a, F, O, E>(alloc: Global, f: F) -> ListOfValues<F>
 where
     F: FnMut(&'a [u8]) -> IResult<&'a [u8], O, E>,
@@ -53,8 +51,7 @@ where
     ListOfValues::new(Rules::Ber, ListType::Set, f, alloc)
 }
 
-/// A parser by DER of an element of the tag number 16, SEQUENCE, which reads its content by `f`,
-/// value after value (X.690 8.10).
+/// A DER parser of an element with tag number 16, SEQUENCE. `f` reads its content, value after value (X.690 8.10).
 ///
 /// ```
 /// let (rest, numbers) = parse_der_sequence_of_v(alloc, parse_der_i32).parse(input)?;
@@ -67,8 +64,8 @@ where
     ListOfValues::new(Rules::Der, ListType::Sequence, f, alloc)
 }
 
-/// A parser by DER of an element of the tag number 17, SET, which reads its content by `f`,
-/// value after value (X.690 8.12), and checks that the octets of the values ascend (11.6).
+/// A DER parser of an element with tag number 17, SET. `f` reads its content, value after value (X.690 8.12). The
+/// octets of the values have to ascend (11.6).
 pub fn parse_der_set_of_v<'a, F, O, E>(alloc: Global, f: F) -> ListOfValues<F>
 where
     F: FnMut(&'a [u8]) -> IResult<&'a [u8], O, E>,
@@ -90,20 +87,19 @@ impl<F> ListOfValues<F> {
         }
     }
 
-    /// Reads as `NumberedContainer::parse` an element of the type's tag number, of any class. The kept
-    /// parser is called on its content octets, and then on what each call leaves, also where nothing
-    /// is left: its Incomplete there ends the list. Returns the values in their order.
+    /// Reads an element of the type's tag number, of any class, as `NumberedContainer::parse`. Calls the kept parser on
+    /// its content octets, and then on what each call leaves, also if that is nothing: Incomplete there ends the list.
+    /// Returns the values in their order.
     ///
-    /// Errors, without a call of the parser: those of `NumberedContainer::parse`. After them, at
-    /// the call that shows it: where the parser returns Incomplete and octets are left, the Error of
-    /// Eof at them; where it leaves no less than it was given, the Error of Many0 at what it was
-    /// given. An Error of the parser becomes a Failure. Its Failure and OutOfMemory pass. The list may
-    /// run out of memory at each value.
+    /// Errors:
+    /// - those of `NumberedContainer::parse`, without a call of the parser;
+    /// - that of Eof if the parser returns Incomplete and octets are left, at these octets;
+    /// - that of Many0 if the parser takes no octets, at the octets that it was given;
+    /// - by DER, SetOfOrder if a value of a SET OF is less than the one before (X.690 11.6). Their octets are compared,
+    ///   the shorter padded at its end with zeros. The parser isn't called again, and the value takes no memory.
     ///
-    /// By DER the octets of each value of a SET OF are compared with those of the value before, octet by
-    /// octet. The shorter is padded at its end with octets of 0. Where a value is less than the one
-    /// before, the result is the Error SetOfOrder, the parser isn't called again, and no memory is
-    /// allocated for the value.
+    /// An Error of the parser becomes a Failure. Its Failure and OutOfMemory are returned as they are. The list may run
+    /// out of memory at each value.
     #[inline(always)]
     pub fn parse<'a, O, E>(&mut self, i: &'a [u8]) -> IResult<&'a [u8], Vec<O>, E>
     where
@@ -139,8 +135,7 @@ impl<F> Model for ListOfObjects<F> {
     ghost view = { λ c. ((c.rules, c.list), c.f) };
 }
 
-/// A parser by BER of an element of the tag number 16, SEQUENCE, which reads its content by `f`,
-/// object after object (X.690 8.10).
+/// A BER parser of an element with tag number 16, SEQUENCE. `f` reads its content, object after object (X.690 8.10).
 pub fn parse_ber_sequence_of<'a, F, E>(alloc: Global, f: F) -> ListOfObjects<F>
 where
     F: FnMut(&'a [u8]) -> IResult<&'a [u8], BerObject<'a>, E>,
@@ -149,8 +144,7 @@ where
     ListOfObjects::new(Rules::Ber, ListType::Sequence, f, alloc)
 }
 
-/// A parser by BER of an element of the tag number 17, SET, which reads its content by `f`,
-/// object after object (X.690 8.12).
+/// A BER parser of an element with tag number 17, SET. `f` reads its content, object after object (X.690 8.12).
 pub fn parse_ber_set_of<'a, F, E>(alloc: Global, f: F) -> ListOfObjects<F>
 where
     F: FnMut(&'a [u8]) -> IResult<&'a [u8], BerObject<'a>, E>,
@@ -159,8 +153,7 @@ where
     ListOfObjects::new(Rules::Ber, ListType::Set, f, alloc)
 }
 
-/// A parser by DER of an element of the tag number 16, SEQUENCE, which reads its content by `f`,
-/// object after object (X.690 8.10).
+/// A DER parser of an element with tag number 16, SEQUENCE. `f` reads its content, object after object (X.690 8.10).
 pub fn parse_der_sequence_of<'a, F, E>(alloc: Global, f: F) -> ListOfObjects<F>
 where
     F: FnMut(&'a [u8]) -> IResult<&'a [u8], BerObject<'a>, E>,
@@ -169,8 +162,8 @@ where
     ListOfObjects::new(Rules::Der, ListType::Sequence, f, alloc)
 }
 
-/// A parser by DER of an element of the tag number 17, SET, which reads its content by `f`,
-/// object after object (X.690 8.12), and checks that the octets of the objects ascend (11.6).
+/// A DER parser of an element with tag number 17, SET. `f` reads its content, object after object (X.690 8.12). The
+/// octets of the objects have to ascend (11.6).
 pub fn parse_der_set_of<'a, F, E>(alloc: Global, f: F) -> ListOfObjects<F>
 where
     F: FnMut(&'a [u8]) -> IResult<&'a [u8], BerObject<'a>, E>,
@@ -192,8 +185,8 @@ impl<F> ListOfObjects<F> {
         }
     }
 
-    /// Reads as `ListOfValues::parse`, with its errors and its OutOfMemory. Returns the SEQUENCE or the
-    /// SET of the items, as `BerObject::from_seq` or `BerObject::from_set` makes it.
+    /// Reads as `ListOfValues::parse`, with its errors and its OutOfMemory. Returns the SEQUENCE or SET of the items,
+    /// as `BerObject::from_seq` or `BerObject::from_set` makes it.
     #[inline(always)]
     pub fn parse<'a, E>(&mut self, i: &'a [u8]) -> IResult<&'a [u8], BerObject<'a>, E>
     where
@@ -228,8 +221,7 @@ impl<F> Model for ListObject<F> {
     ghost view = { λ c. ((c.rules, c.list), c.f) };
 }
 
-/// A parser by BER of an element of the tag number 16, SEQUENCE, whose items `f` reads from its
-/// content (X.690 8.9).
+/// A BER parser of an element with tag number 16, SEQUENCE. `f` reads all items from its content (X.690 8.9).
 pub fn parse_ber_sequence_defined<'a, F, E>(f: F) -> ListObject<F>
 where
     F: FnMut(&'a [u8]) -> IResult<&'a [u8], Vec<BerObject<'a>>, E>,
@@ -238,8 +230,7 @@ where
     ListObject::new(Rules::Ber, ListType::Sequence, f)
 }
 
-/// A parser by BER of an element of the tag number 17, SET, whose items `f` reads from its
-/// content (X.690 8.11).
+/// A BER parser of an element with tag number 17, SET. `f` reads all items from its content (X.690 8.11).
 pub fn parse_ber_set_defined<'a, F, E>(f: F) -> ListObject<F>
 where
     F: FnMut(&'a [u8]) -> IResult<&'a [u8], Vec<BerObject<'a>>, E>,
@@ -248,8 +239,7 @@ where
     ListObject::new(Rules::Ber, ListType::Set, f)
 }
 
-/// A parser by DER of an element of the tag number 16, SEQUENCE, whose items `f` reads from its
-/// content (X.690 8.9).
+/// A DER parser of an element with tag number 16, SEQUENCE. `f` reads all items from its content (X.690 8.9).
 pub fn parse_der_sequence_defined<'a, F, E>(f: F) -> ListObject<F>
 where
     F: FnMut(&'a [u8]) -> IResult<&'a [u8], Vec<BerObject<'a>>, E>,
@@ -258,8 +248,7 @@ where
     ListObject::new(Rules::Der, ListType::Sequence, f)
 }
 
-/// A parser by DER of an element of the tag number 17, SET, whose items `f` reads from its
-/// content (X.690 8.11).
+/// A DER parser of an element with tag number 17, SET. `f` reads all items from its content (X.690 8.11).
 pub fn parse_der_set_defined<'a, F, E>(f: F) -> ListObject<F>
 where
     F: FnMut(&'a [u8]) -> IResult<&'a [u8], Vec<BerObject<'a>>, E>,
@@ -276,9 +265,8 @@ impl<F> ListObject<F> {
         ListObject { rules, list, f }
     }
 
-    /// Reads as `NumberedContainer::parse`, and calls the kept parser on the content octets alone.
-    /// Returns the SEQUENCE or the SET of the items, as `BerObject::from_seq` or `BerObject::from_set`
-    /// makes it.
+    /// Reads as `NumberedContainer::parse`, and calls the kept parser on the content octets alone. Returns the SEQUENCE
+    /// or SET of the items, as `BerObject::from_seq` or `BerObject::from_set` makes it.
     #[inline(always)]
     pub fn parse<'a, E>(&mut self, i: &'a [u8]) -> IResult<&'a [u8], BerObject<'a>, E>
     where

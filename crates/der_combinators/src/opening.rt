@@ -1,4 +1,4 @@
-//! The element that an input begins with, by the rules, and what combinators do with it.
+//! The element at the start of an input, by the rules, and what combinators do with it.
 ghost use Rattle.std.specs.Prelude.{ℕ, List, IfErr, IfOk, MatchOption};
 ghost use Rattle.der_base.specs.declared.rules.Rules.TheVariants.{Ber, Der};
 ghost use Rattle.der_base.specs.Containers.{ContainerRun, HasShortContent, OnContent, OnImplicit};
@@ -18,7 +18,7 @@ use der_object::BerObject;
 /// An element that was opened: its header, its content octets, and what follows it.
 pub type Opened<'a> = (Header<'a>, &'a [u8], &'a [u8]);
 
-/// The element that `i` begins with, where its content is whole.
+/// The element at the start of `i`, if its content is whole.
 #[inline(always)]
 pub fn open_element<'a, E>(rules: Rules, i: &'a [u8]) -> Result<Opened<'a>, Err<E>>
 where
@@ -32,7 +32,7 @@ where
     }
 }
 
-/// The same of an element of this tag number, of any class. Another number is UnexpectedTag.
+/// `open_element` for an element of this tag number, of any class. Another number is UnexpectedTag.
 #[inline(always)]
 pub fn open_number<'a, E>(rules: Rules, i: &'a [u8], tag: Tag) -> Result<Opened<'a>, Err<E>>
 where
@@ -50,8 +50,8 @@ where
     }
 }
 
-/// The same of an explicit tag of this number (X.690 8.14.2). Class Universal is UnexpectedClass, then
-/// another number is UnexpectedTag, then a primitive encoding is ConstructExpected.
+/// `open_element` for an explicit tag of this number (X.690 8.14.2). Class Universal is UnexpectedClass, then another
+/// number is UnexpectedTag, then a primitive encoding is ConstructExpected.
 pub fn open_explicit<'a, E>(rules: Rules, i: &'a [u8], tag: Tag) -> Result<Opened<'a>, Err<E>>
 where
     E: ParseError<&'a [u8]> + From<BerError>,
@@ -92,7 +92,7 @@ where
     }
 }
 
-/// What follows a header, where its definite length is more octets than that.
+/// The octets after a header, if they are fewer than its definite length.
 fn short_content(i: &[u8]) -> Option<&[u8]>
     ensures { MatchOption result
         ((content : List ℕ) → ¬ HasShortContent Ber i.now content)
@@ -129,8 +129,7 @@ where
     Ok((header, content, after))
 }
 
-/// Calls `f` once on the content and the header of an element that was opened. Where no element was
-/// opened, it returns that error.
+/// Calls `f` once on the content and the header of the opened element. If no element was opened, it returns that error.
 pub fn parse_content<'a, F, O, E>(
     f: &mut F,
     opened: Result<Opened<'a>, Err<E>>,
@@ -151,7 +150,7 @@ where
     }
 }
 
-/// The same on the content alone, where `f` returns a list of objects.
+/// `parse_content` on the content alone, for an `f` that returns a list of objects.
 pub fn parse_list_content<'a, F, E>(
     f: &mut F,
     opened: Result<Opened<'a>, Err<E>>,
@@ -173,8 +172,7 @@ where
     }
 }
 
-/// The same on the content, on the header with the definite length of the content, and on the depth
-/// `MAX_RECURSION`.
+/// `parse_content` on the content, the header with the definite length of the content, and the depth `MAX_RECURSION`.
 pub fn parse_implicit_content<'a, F, O, E>(
     f: &mut F,
     opened: Result<Opened<'a>, Err<E>>,

@@ -1,5 +1,5 @@
-//! Combinators for explicit and implicit tags (X.690 8.14), which keep the rules, the tag number and
-//! the caller's parser, and for objects that may be absent.
+//! Combinators for explicit and implicit tags (X.690 8.14), which keep the rules, the tag number and the caller's
+//! parser, and for optional objects.
 ghost use Rattle.std.specs.Prelude.{◌≡◌};
 ghost use Rattle.der_base.specs.declared.rules.Rules.TheVariants.{Ber, Der};
 ghost use Rattle.der_base.specs.Containers.{ExplicitRun, Keeps, LetsGo, MadeInMemory, NumberRun};
@@ -33,8 +33,7 @@ impl<F> Model for ExplicitContainer<F> {
     ghost view = { λ c. ((c.rules, c.tag.0), c.f) };
 }
 
-/// A parser by BER of an explicit tag of this number (X.690 8.14.2), which hands its content and
-/// its header to `f`.
+/// A BER parser of an explicit tag of this number (X.690 8.14.2). `f` gets its content and header.
 pub fn parse_ber_tagged_explicit_g<'a, F, O, E>(tag: Tag, f: F) -> ExplicitContainer<F>
 where
     F: FnMut(&'a [u8], Header<'a>) -> IResult<&'a [u8], O, E>,
@@ -43,8 +42,7 @@ where
     ExplicitContainer::new(Rules::Ber, tag, f)
 }
 
-/// A parser by DER of an explicit tag of this number (X.690 8.14.2), which hands its content and
-/// its header to `f`.
+/// A DER parser of an explicit tag of this number (X.690 8.14.2). `f` gets its content and header.
 ///
 /// ```
 /// let (rest, number) = parse_der_tagged_explicit_g(Tag(0), number_inside).parse(input)?;
@@ -69,12 +67,10 @@ impl<F> ExplicitContainer<F> {
         ExplicitContainer { rules, tag, f }
     }
 
-    /// Reads as `Container::parse` an element that is an explicit tag of the number:
-    /// constructed, and of any class but Universal.
+    /// Reads an explicit tag of the number as `Container::parse`: constructed, and of any class but Universal.
     ///
-    /// Errors, without a call of the parser, after those of `Container::parse` and in this order:
-    /// UnexpectedClass for class Universal; UnexpectedTag for another number; ConstructExpected for a
-    /// primitive encoding.
+    /// Errors, without a call of the parser, after those of `Container::parse` and in this order: UnexpectedClass for
+    /// class Universal; UnexpectedTag for another number; ConstructExpected for a primitive encoding.
     #[inline(always)]
     pub fn parse<'a, O, E>(&mut self, i: &'a [u8]) -> IResult<&'a [u8], O, E>
     where
@@ -107,8 +103,8 @@ impl<F> Model for ImplicitContainer<F> {
     ghost view = { λ c. ((c.rules, c.tag.0), c.f) };
 }
 
-/// A parser by BER of an element under an implicit tag of this number (X.690 8.14.3), which hands
-/// its content, its header and the depth `MAX_RECURSION` to `f`.
+/// A BER parser of an element under an implicit tag of this number (X.690 8.14.3). `f` gets its content, its header and
+/// the depth `MAX_RECURSION`.
 pub fn parse_ber_tagged_implicit_g<'a, F, O, E>(tag: Tag, f: F) -> ImplicitContainer<F>
 where
     F: FnMut(&'a [u8], Header<'a>, usize) -> IResult<&'a [u8], O, E>,
@@ -117,8 +113,8 @@ where
     ImplicitContainer::new(Rules::Ber, tag, f)
 }
 
-/// A parser by DER of an element under an implicit tag of this number (X.690 8.14.3), which hands
-/// its content, its header and the depth `MAX_RECURSION` to `f`.
+/// A DER parser of an element under an implicit tag of this number (X.690 8.14.3). `f` gets its content, its header and
+/// the depth `MAX_RECURSION`.
 pub fn parse_der_tagged_implicit_g<'a, F, O, E>(tag: Tag, f: F) -> ImplicitContainer<F>
 where
     F: FnMut(&'a [u8], Header<'a>, usize) -> IResult<&'a [u8], O, E>,
@@ -135,12 +131,11 @@ impl<F> ImplicitContainer<F> {
         ImplicitContainer { rules, tag, f }
     }
 
-    /// Reads as `Container::parse` an element of the number, of any class, constructed or not. The
-    /// parser gets the header with the definite length of the content octets, so it may read them as
-    /// those of the type under the tag.
+    /// Reads an element of the number, of any class, primitive or constructed, as `Container::parse`. The parser may
+    /// read the content octets as those of the type under the tag: it gets the header with their number as the definite
+    /// length.
     ///
-    /// Another number is UnexpectedTag, after the errors of `Container::parse`, without a call of
-    /// the parser.
+    /// Another number is UnexpectedTag, after the errors of `Container::parse`, without a call of the parser.
     #[inline(always)]
     pub fn parse<'a, O, E>(&mut self, i: &'a [u8]) -> IResult<&'a [u8], O, E>
     where
@@ -174,8 +169,7 @@ impl<F> Model for ExplicitObject<F> {
     ghost view = { λ c. ((c.rules, c.tag.0), c.f) };
 }
 
-/// A parser by BER of an object inside an explicit tag of this number (X.690 8.14.2), which `f`
-/// reads.
+/// A BER parser of an object inside an explicit tag of this number (X.690 8.14.2). `f` reads the object.
 pub fn parse_ber_tagged_explicit<'a, F, E>(alloc: Global, tag: Tag, f: F) -> ExplicitObject<F>
 where
     F: FnMut(&'a [u8]) -> IResult<&'a [u8], BerObject<'a>, E>,
@@ -184,8 +178,7 @@ where
     ExplicitObject::new(Rules::Ber, tag, f, alloc)
 }
 
-/// A parser by DER of an object inside an explicit tag of this number (X.690 8.14.2), which `f`
-/// reads.
+/// A DER parser of an object inside an explicit tag of this number (X.690 8.14.2). `f` reads the object.
 pub fn parse_der_tagged_explicit<'a, F, E>(alloc: Global, tag: Tag, f: F) -> ExplicitObject<F>
 where
     F: FnMut(&'a [u8]) -> IResult<&'a [u8], BerObject<'a>, E>,
@@ -207,9 +200,9 @@ impl<F> ExplicitObject<F> {
         }
     }
 
-    /// Reads as `ExplicitContainer::parse`, and calls the kept parser on the content octets alone.
-    /// Returns the content `Tagged`, with the class and the number of the tag and the object in a box,
-    /// under the header of the tag. The box may run out of memory, after the call of the parser.
+    /// Reads as `ExplicitContainer::parse`, and calls the kept parser on the content octets alone. Returns the content
+    /// `Tagged`, with the tag's class and number and the object in a box, under the header of the tag. The box may run
+    /// out of memory, after the call of the parser.
     #[inline(always)]
     pub fn parse<'a, E>(&mut self, i: &'a [u8]) -> IResult<&'a [u8], BerObject<'a>, E>
     where
@@ -246,8 +239,8 @@ impl<F> Model for ImplicitObject<F> {
     ghost view = { λ c. ((c.rules, c.tag.0), c.f) };
 }
 
-/// A parser by BER of an object under an implicit tag of this number (X.690 8.14.3), whose content
-/// `f` reads from the content octets, the header and the depth `MAX_RECURSION`.
+/// A BER parser of an object under an implicit tag of this number (X.690 8.14.3). `f` reads its content, and gets the
+/// content octets, the header and the depth `MAX_RECURSION`.
 pub fn parse_ber_tagged_implicit<'a, F, E>(tag: Tag, f: F) -> ImplicitObject<F>
 where
     F: FnMut(&'a [u8], &Header<'a>, usize) -> IResult<&'a [u8], BerObjectContent<'a>, E>,
@@ -256,8 +249,8 @@ where
     ImplicitObject::new(Rules::Ber, tag, f)
 }
 
-/// A parser by DER of an object under an implicit tag of this number (X.690 8.14.3), whose content
-/// `f` reads from the content octets, the header and the depth `MAX_RECURSION`.
+/// A DER parser of an object under an implicit tag of this number (X.690 8.14.3). `f` reads its content, and gets the
+/// content octets, the header and the depth `MAX_RECURSION`.
 pub fn parse_der_tagged_implicit<'a, F, E>(tag: Tag, f: F) -> ImplicitObject<F>
 where
     F: FnMut(&'a [u8], &Header<'a>, usize) -> IResult<&'a [u8], BerObjectContent<'a>, E>,
@@ -274,8 +267,8 @@ impl<F> ImplicitObject<F> {
         ImplicitObject { rules, tag, f }
     }
 
-    /// Reads as `ImplicitContainer::parse`. Returns the object of the content that the kept parser
-    /// returns, under the header that the parser gets.
+    /// Reads as `ImplicitContainer::parse`. Returns the object with the content that the kept parser returns, under the
+    /// header that the parser gets.
     #[inline(always)]
     pub fn parse<'a, E>(&mut self, i: &'a [u8]) -> IResult<&'a [u8], BerObject<'a>, E>
     where
@@ -290,8 +283,8 @@ impl<F> ImplicitObject<F> {
     }
 }
 
-/// Reads by BER an object under an implicit tag of this number (X.690 8.14.3) as
-/// `ImplicitObject::parse` does, where `f` is the kept parser.
+/// Reads by BER an object under an implicit tag of this number (X.690 8.14.3), as `ImplicitObject::parse` with the
+/// parser `f`.
 pub fn parse_ber_implicit<'a, F, E>(
     i: &'a [u8],
     tag: Tag,
@@ -307,8 +300,8 @@ where
     parse_object_content(&mut f, open_number(Rules::Ber, i, tag))
 }
 
-/// Reads by DER an object under an implicit tag of this number (X.690 8.14.3) as
-/// `ImplicitObject::parse` does, where `f` is the kept parser.
+/// Reads by DER an object under an implicit tag of this number (X.690 8.14.3), as `ImplicitObject::parse` with the
+/// parser `f`.
 pub fn parse_der_implicit<'a, F, E>(
     i: &'a [u8],
     tag: Tag,
@@ -324,7 +317,7 @@ where
     parse_object_content(&mut f, open_number(Rules::Der, i, tag))
 }
 
-/// A parser of an object that may be absent, which keeps the parser of the object.
+/// A parser of an optional object, which keeps the parser of the object.
 #[derive(Drop)]
 pub struct OptionalObject<F> {
     f: F,
@@ -337,7 +330,7 @@ impl<F> Model for OptionalObject<F> {
     ghost view = { λ c. c.f };
 }
 
-/// A parser of an object that may be absent, which `f` reads where it is there.
+/// A parser of an optional object, which `f` reads.
 pub fn parse_ber_optional<'a, F, E>(alloc: Global, f: F) -> OptionalObject<F>
 where
     F: FnMut(&'a [u8]) -> IResult<&'a [u8], BerObject<'a>, E>,
@@ -347,10 +340,10 @@ where
 }
 
 impl<F> OptionalObject<F> {
-    /// Calls the kept parser once, on `i`. An object that it reads is the content `Optional` with
-    /// the object in a box, under the object's own header. The box may run out of memory. OutOfMemory
-    /// of the parser passes. Its Incomplete, its Error and its Failure mean that the object is absent:
-    /// the content is `Optional(None)`, as `BerObject::from_obj` makes it, and all of `i` is left.
+    /// Calls the kept parser once, on `i`. Returns its object as the content `Optional`, in a box, under the object's
+    /// header. If the parser returns Incomplete, an Error or a Failure, the object is absent: the content is
+    /// `Optional(None)`, as `BerObject::from_obj` makes it, and all of `i` is left. OutOfMemory of the parser is
+    /// returned, and the box may run out of memory.
     pub fn parse<'a, E>(&mut self, i: &'a [u8]) -> IResult<&'a [u8], BerObject<'a>, E>
     where
         F: FnMut(&'a [u8]) -> IResult<&'a [u8], BerObject<'a>, E>,
@@ -363,10 +356,9 @@ impl<F> OptionalObject<F> {
     }
 }
 
-/// Reads by BER an object inside an explicit tag of this number (X.690 8.14.2) that may be absent,
-/// as `OptionalObject::parse` does, where the kept parser is that of `ExplicitObject::parse` over
-/// `f`. So the object is absent too where its tag is another one or is refused, and `f` isn't
-/// called.
+/// Reads by BER an optional object inside an explicit tag of this number (X.690 8.14.2): `OptionalObject::parse` with
+/// `ExplicitObject::parse` as the kept parser. If the tag is another one or is rejected, the object is absent and `f`
+/// isn't called.
 pub fn parse_ber_explicit_optional<'a, F, E>(
     alloc: Global,
     i: &'a [u8],
@@ -387,10 +379,9 @@ where
     )
 }
 
-/// Reads by DER an object inside an explicit tag of this number (X.690 8.14.2) that may be absent,
-/// as `OptionalObject::parse` does, where the kept parser is that of `ExplicitObject::parse` over
-/// `f`. So the object is absent too where its tag is another one or is refused, and `f` isn't
-/// called.
+/// Reads by DER an optional object inside an explicit tag of this number (X.690 8.14.2): `OptionalObject::parse` with
+/// `ExplicitObject::parse` as the kept parser. If the tag is another one or is rejected, the object is absent and `f`
+/// isn't called.
 pub fn parse_der_explicit_optional<'a, F, E>(
     alloc: Global,
     i: &'a [u8],

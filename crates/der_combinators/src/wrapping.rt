@@ -1,5 +1,4 @@
-//! Objects that combinators make of what their parsers return: lists, tagged objects, and objects that
-//! may be absent.
+//! Objects that combinators make of what their parsers return: lists, tagged objects and optional objects.
 ghost use Rattle.std.specs.Prelude.{IfSome};
 ghost use Rattle.der_base.specs.Containers.{ContainerRun, MadeInMemory, OnContent, OnImplicit};
 ghost use Rattle.der_base.specs.Inner.Opened.{IsOpened, IsUnopened, Remakes};
@@ -14,7 +13,7 @@ use der_base::header::{Header, Length};
 use der_object::{BerObject, BerObjectContent};
 use std::alloc::Global;
 
-/// The result with the list of its items in place of them.
+/// The result with the list object in place of its items.
 #[inline(always)]
 pub fn with_list<'a, E>(
     list: ListType,
@@ -28,8 +27,8 @@ pub fn with_list<'a, E>(
     }
 }
 
-/// Calls `f` once on the content of an element that was opened, and returns the object that it
-/// reads, in a box inside the element's tag. Where no element was opened, it returns that error.
+/// Calls `f` once on the content of the opened element, and returns the object that it reads, in a box inside the
+/// element's tag. If no element was opened, it returns that error.
 pub fn parse_tagged_content<'a, F, E>(
     alloc: Global,
     f: &mut F,
@@ -73,9 +72,9 @@ fn tagged_object<'a>(
     }
 }
 
-/// Calls `f` once on the content of an element that was opened, on its header with the definite
-/// length of the content, and on the depth `MAX_RECURSION`. Returns the object of that header and of
-/// the content that `f` reads. Where no element was opened, it returns that error.
+/// Calls `f` once on the content of the opened element, its header with the definite length of the content, and the
+/// depth `MAX_RECURSION`. Returns the object of that header and of the content that `f` reads. If no element was
+/// opened, it returns that error.
 pub fn parse_object_content<'a, F, E>(
     f: &mut F,
     opened: Result<Opened<'a>, Err<E>>,
@@ -98,9 +97,8 @@ where
     }
 }
 
-/// The result for an object that may be absent, where its own parser returned `answer` on `i`: the
-/// object, in a box and under its own header, or an absent object with all of `i` left. OutOfMemory
-/// passes.
+/// The result for an optional object, from the result `answer` of its own parser on `i`: the object, in a box and under
+/// its own header, or an absent object with all of `i` left. OutOfMemory is returned as it is.
 pub fn may_be_absent<'a, E>(
     alloc: Global,
     i: &'a [u8],
@@ -122,7 +120,7 @@ where
     }
 }
 
-/// The object where it may be absent.
+/// An object that is present.
 fn present_object<'a>(alloc: Global, inner: BerObject<'a>) -> Option<BerObject<'a>>
     ensures { IfSome result (λ x. IsPresent inner.entry x) }
 {

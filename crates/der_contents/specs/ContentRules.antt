@@ -148,7 +148,7 @@ content_rules r t w = first_row (
     ∷ row (t == 8) (need ⊥ errors.ExternalPrimitive ∷ [])
     ∷ row (t == 9) (real_rules r w)
     ∷ row (t == 11) (need ⊥ errors.EmbeddedPdvPrimitive ∷ [])
-    ∷ row (t == 12) (need (IsUtf8 w) errors.NotUtf8 ∷ [])
+    ∷ row (t == 12 || t == 35 || t == 36) (need (IsUtf8 w) errors.NotUtf8 ∷ [])
     ∷ row (t == 16) (need ⊥ errors.SequencePrimitive ∷ [])
     ∷ row (t == 17) (need ⊥ errors.SetPrimitive ∷ [])
     ∷ row (t == 18 || t == 19 || t == 22 || t == 26) (text_rules t w)

@@ -15,13 +15,14 @@ IsOffset = NumberThen 0 23 (NumberThen 0 59 Ends)
 abbrev pub IsZone : List ℕ → Type 0
 IsZone w = OneThen IsSign IsOffset w ⊎ (w ≡ codes "Z")
 
--- A year, a month, a day, an hour and a minute. The second may be left out, and may be 60.
+-- A year, a month, a day, an hour and a minute. The second may be left out. Of a GeneralizedTime it may be 60, of a
+-- UTCTime at most 59 (X.680 46.2, 47.3).
 
 abbrev pub UtcToMinute : (List ℕ → Type 0) → List ℕ → Type 0
 UtcToMinute G = NumberThen 0 99 (MonthToHour (NumberThen 0 59 G))
 
 abbrev pub EndsUtcTime : List ℕ → Type 0
-EndsUtcTime w = NumberThen 0 60 IsZone w ⊎ IsZone w
+EndsUtcTime w = NumberThen 0 59 IsZone w ⊎ IsZone w
 
 abbrev pub IsUtcTimeText : List ℕ → Type 0
 IsUtcTimeText = UtcToMinute EndsUtcTime

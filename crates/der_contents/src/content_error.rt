@@ -51,7 +51,7 @@ pub enum ContentError {
     RealDecimal,
     /// By DER a decimal REAL has another form or needless characters (11.3.2).
     RealDecimalNotStrict,
-    /// A UTF8String isn't UTF-8 (8.23.10).
+    /// A UTF8String, OID-IRI or RELATIVE-OID-IRI isn't UTF-8 (8.21, 8.22, 8.23.10).
     NotUtf8,
     /// An octet is outside of the character set of its type (8.23).
     CharacterOutside,
@@ -109,7 +109,7 @@ impl ContentError {
             ContentError::RealSpecial => "a special value of a REAL isn't known",
             ContentError::RealDecimal => "a decimal REAL isn't in its form of ISO 6093",
             ContentError::RealDecimalNotStrict => "a decimal REAL has needless characters",
-            ContentError::NotUtf8 => "a UTF8String isn't UTF-8",
+            ContentError::NotUtf8 => "a text isn't UTF-8",
             ContentError::CharacterOutside => "an octet is outside of the character set",
             ContentError::UniversalStringLength => "a UniversalString isn't groups of four octets",
             ContentError::BmpStringLength => "a BMPString isn't pairs of octets",
@@ -153,7 +153,7 @@ impl ContentError {
             ContentError::RealSpecial => "8.5.9",
             ContentError::RealDecimal => "8.5.8",
             ContentError::RealDecimalNotStrict => "11.3.2",
-            ContentError::NotUtf8 => "8.23.10",
+            ContentError::NotUtf8 => "8.21, 8.22, 8.23.10",
             ContentError::CharacterOutside => "8.23",
             ContentError::UniversalStringLength => "8.23.7",
             ContentError::BmpStringLength => "8.23.9",

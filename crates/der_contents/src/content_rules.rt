@@ -18,14 +18,17 @@ use std::str;
 
 /// The type CHARACTER STRING (X.680 44).
 const CHARACTER_STRING: Tag = Tag(29);
-/// The octets of a character of a UniversalString (8.23.7), and of a BMPString (8.23.9).
+/// The types OID-IRI (X.680 34) and RELATIVE-OID-IRI (35).
+const OID_IRI: Tag = Tag(35);
+
+const RELATIVE_OID_IRI: Tag = Tag(36);
+/// The octets of a character of a UniversalString (8.23.7) and of a BMPString (8.23.9).
 const UNIVERSAL_OCTETS: usize = 4;
 
 const BMP_OCTETS: usize = 2;
 
-/// Checks the content octets of a primitive element of a universal type (X.690 8; by DER 10 and 11 too),
-/// as far as that needs no ASN.1 type: the error is the first rule that they break. The octets of a type
-/// without such a rule aren't looked at.
+/// Checks the content octets of a primitive element of a universal type (X.690 8; by DER 10 and 11 too), as far as that
+/// needs no ASN.1 type. The error is the first rule that they break. A type without such a rule may have any octets.
 pub fn check_content(rules: Rules, number: u32, octets: &[u8]) -> Result<(), ContentError>
     ensures { Checks (content_rules rules number octets.now) result }
 {
@@ -44,7 +47,7 @@ fn check_tag(rules: Rules, tag: Tag, octets: &[u8]) -> Result<(), ContentError>
         Tag::External => Err(ContentError::ExternalPrimitive),
         Tag::RealType => check_real(rules, octets),
         Tag::EmbeddedPdv => Err(ContentError::EmbeddedPdvPrimitive),
-        Tag::Utf8String => check_utf8(octets),
+        Tag::Utf8String | OID_IRI | RELATIVE_OID_IRI => check_utf8(octets),
         Tag::Sequence => Err(ContentError::SequencePrimitive),
         Tag::Set => Err(ContentError::SetPrimitive),
         Tag::NumericString | Tag::PrintableString | Tag::Ia5String | Tag::VisibleString => {
@@ -112,7 +115,7 @@ fn check_unused_bits(rules: Rules, unused: u8, bits: &[u8]) -> Result<(), Conten
     }
 }
 
-/// Checks that a NULL has no octets, as DER reads one.
+/// Checks that a NULL has no octets, by BER too.
 fn check_null(octets: &[u8]) -> Result<(), ContentError>
     ensures { Checks (need (octets.now ≡ []) NullNotEmpty ∷ []) result }
 {
@@ -158,7 +161,7 @@ fn check_characters(tag: Tag, octets: &[u8]) -> Result<(), ContentError>
     }
 }
 
-/// Checks that octets are groups of this size.
+/// Checks that the number of octets is a multiple of this size.
 fn check_groups(size: usize, octets: &[u8], error: ContentError) -> Result<(), ContentError>
     requires { 1 ≤ size }
     ensures { Checks (need (length octets.now % size ≡ 0) error ∷ []) result }

@@ -1,4 +1,4 @@
-//! The fronts of texts, one part after another.
+//! Prefixes of texts, one part after another.
 ghost use Rattle.std.specs.Prelude.{◌≡◌, ◌≤◌, ◌↔◌, IsTrue, All, MatchOption, length, take, drop};
 ghost use Rattle.der_base.specs.Time.{IsDigit};
 ghost use Rattle.der_contents.specs.Grammar.{BeginsWithNo, Ends, IsMark, IsSign, IsSpace, NumberThen, OneThen};
@@ -41,7 +41,7 @@ pub(crate) fn strip_octet(octets: &[u8], wanted: u8) -> Option<&[u8]>
     }
 }
 
-/// What follows a number of two digits, from low to high. None if the octets begin with none.
+/// What follows a number of two digits, from `low` to `high`. None if the octets begin with none.
 pub(crate) fn strip_number(octets: &[u8], low: u8, high: u8) -> Option<&[u8]>
     ensures { Strips (NumberThen low high) octets.now result }
 {
@@ -58,7 +58,7 @@ pub(crate) fn strip_number(octets: &[u8], low: u8, high: u8) -> Option<&[u8]>
     Some(rest)
 }
 
-/// Whether the octets are a number of two digits, from low to high.
+/// Whether the octets are a number of two digits, from `low` to `high`.
 pub(crate) fn is_number(octets: &[u8], low: u8, high: u8) -> bool
     ensures { IsTrue result ↔ NumberThen low high Ends octets.now }
 {
@@ -102,7 +102,7 @@ pub(crate) fn strip_digits(octets: &[u8]) -> Option<&[u8]>
     Some(&octets[count..])
 }
 
-/// Whether the octets are digits, one or more.
+/// Whether the octets are one or more digits.
 pub(crate) fn is_whole(octets: &[u8]) -> bool
     ensures { IsTrue result ↔ SomeThen IsDigit Ends octets.now }
 {

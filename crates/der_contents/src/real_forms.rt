@@ -19,17 +19,17 @@ use crate::grammar::{
 use der_base::integer::check_fewest_octets;
 use der_base::rules::Rules;
 
-/// The least first octet of a special value, with the bits 8 and 7 01 (8.5.6).
+/// The least first octet of a special value: bits 8 and 7 are 01 (8.5.6).
 const SPECIAL: u8 = 0x40;
 /// The greatest first octet of a special value: minus zero (8.5.9).
 const MINUS_ZERO: u8 = 0x43;
-/// The least first octet of a value in binary, with the bit 8 set (8.5.6).
+/// The least first octet of a value in binary: bit 8 is 1 (8.5.6).
 const BINARY: u8 = 0x80;
-/// The bits 6 and 5 of a base that is reserved (8.5.7.2).
+/// Bits 6 and 5 of a reserved base (8.5.7.2).
 const RESERVED_BASE: u8 = 3;
-/// The bits 2 and 1 where the next octet is the number of octets of the exponent (8.5.7.4).
+/// Bits 2 and 1 if the next octet is the number of octets of the exponent (8.5.7.4).
 const COUNTED: u8 = 3;
-/// The greatest number of octets of an exponent that isn't counted.
+/// The most octets of an exponent that isn't counted.
 const MOST_UNCOUNTED: usize = 3;
 /// The first octets of the forms of ISO 6093 (8.5.8).
 const NR1: u8 = 1;
@@ -76,7 +76,7 @@ fn check_binary(rules: Rules, first: u8, rest: &[u8]) -> Result<(), ContentError
     check_parts(rules, first, exponent, mantissa)
 }
 
-/// The exponent and the mantissa behind the first octet.
+/// The exponent and the mantissa after the first octet.
 fn split_exponent(first: u8, rest: &[u8]) -> (&[u8], &[u8])
     ensures exponent { result.0.now ≡ exponent_of first rest.now }
     ensures mantissa { result.1.now ≡ mantissa_of first rest.now }
@@ -87,7 +87,7 @@ fn split_exponent(first: u8, rest: &[u8]) -> (&[u8], &[u8])
     split_octets(rest, usize::from(first % 4) + 1)
 }
 
-/// The octets whose number is the first octet, and those behind them.
+/// As many octets as the first octet says, and those after them.
 fn split_counted(octets: &[u8]) -> (&[u8], &[u8])
     ensures front { result.0.now ≡ take (counted octets.now).0 (counted octets.now).1 }
     ensures back { result.1.now ≡ drop (counted octets.now).0 (counted octets.now).1 }
@@ -98,7 +98,7 @@ fn split_counted(octets: &[u8]) -> (&[u8], &[u8])
     }
 }
 
-/// So many octets, or all if there are fewer, and those behind them.
+/// The first `count` octets, or all if there are fewer, and those after them.
 fn split_octets(octets: &[u8], count: usize) -> (&[u8], &[u8])
     ensures front { result.0.now ≡ take count octets.now }
     ensures back { result.1.now ≡ drop count octets.now }
@@ -153,7 +153,7 @@ fn check_strict_parts(first: u8, exponent: &[u8], mantissa: &[u8]) -> Result<(),
     Ok(())
 }
 
-/// Whether there are octets of a number in two's complement, and the first nine bits aren't alike.
+/// Whether a number in two's complement has octets, and its first nine bits aren't alike.
 pub(crate) fn is_fewest(octets: &[u8]) -> bool
     ensures { IsTrue result ↔ IsMinimalInteger octets.now }
 {

@@ -16,7 +16,7 @@ use der_base::rules::Rules;
 
 /// The digits of a UTCTime up to its second.
 const UTC_DIGITS: usize = 12;
-/// Those of a GeneralizedTime.
+/// The digits of a GeneralizedTime up to its second.
 const GENERALIZED_DIGITS: usize = 14;
 
 /// Checks the octets of a UTCTime.
@@ -145,7 +145,7 @@ fn strip_day_and_hour(octets: &[u8]) -> Option<&[u8]>
 fn ends_utc_time(octets: &[u8]) -> bool
     ensures { IsTrue result ↔ EndsUtcTime octets.now }
 {
-    match strip_number(octets, 0, 60) {
+    match strip_number(octets, 0, 59) {
         Some(zone) => is_zone(zone),
         None => is_zone(octets),
     }

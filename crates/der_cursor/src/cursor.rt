@@ -1,4 +1,4 @@
-//! The cursor.
+//! A cursor over the elements of a content, which knows the offset of the next one.
 ghost use Rattle.std.specs.Prelude.{◌≡◌, ◌↔◌, true, false, IfOk, IfSome, IsTrue, [], slice_get};
 ghost use Rattle.der_base.specs.Answer.{MatchAnswer};
 ghost use Rattle.der_base.specs.declared.header.Class.{Class};
@@ -22,19 +22,19 @@ use der_base::rules::Rules;
 use der_base::short::read_short;
 use std::alloc::Global;
 
-/// The octets of an input, or of the content of an element, that aren't read yet. A cursor knows its
-/// offset in the input, which each error has, and the rules by which it reads.
+/// The unread octets of an input or of an element's content. A cursor knows the rules by which it reads, and its offset
+/// in the input, which each error has.
 ///
 /// ```
 /// let mut fields = Cursor::new(certificate).open_sequence()?.open_sequence()?;
 /// fields.open_tagged(0)?; // the version
 /// let serial_number = fields.integer()?;
 /// ```
-#[derive(Clone, Copy, Debug)]
+#[derive(Clone, Copy)]
 pub struct Cursor<'a> {
     pub(crate) left: &'a [u8],
     pub(crate) end: usize,
-    // Whether the octets are the content of an element, and not the input itself.
+    // Whether the octets are the content of an element rather than the whole input.
     pub(crate) inside: bool,
     pub(crate) rules: Rules,
     // The implicit tag that the next element has.
@@ -44,23 +44,23 @@ pub struct Cursor<'a> {
 /// An element that was found.
 #[derive(Clone, Copy)]
 pub(crate) struct Found<'a> {
-    /// Its content octets.
+    /// The content octets.
     pub content: &'a [u8],
-    /// How many octets of an end marker follow them.
+    /// How many end-of-contents octets follow them.
     pub marker: usize,
     /// What follows the element.
     pub rest: &'a [u8],
 }
 
 impl<'a> Cursor<'a> {
-    /// A cursor at the start of an input, which reads by DER.
+    /// A cursor at the start of an input that reads by DER.
     pub fn new(input: &'a [u8]) -> Cursor<'a>
         ensures { StartsAt Rules.Der input.now result }
     {
         Cursor::by(Rules::Der, input)
     }
 
-    /// A cursor at the start of an input, which reads by these rules.
+    /// A cursor at the start of an input that reads by these rules.
     pub fn by(rules: Rules, input: &'a [u8]) -> Cursor<'a>
         ensures { StartsAt rules input.now result }
     {
@@ -73,8 +73,8 @@ impl<'a> Cursor<'a> {
         }
     }
 
-    /// Reads the next element under an implicit tag (X.690 8.14.3): it has the class context-specific
-    /// and this number in place of those of its type.
+    /// Reads the next element under an implicit tag (X.690 8.14.3): it has class context-specific and this number
+    /// instead of those of its type.
     pub fn implicit(&mut self, number: u32) -> &mut Cursor<'a>
         ensures same { result.ghost_name ≡ self.entry.ghost_name }
         ensures tagged { IsTagged Class.ContextSpecific number self.old result.now }
@@ -82,7 +82,7 @@ impl<'a> Cursor<'a> {
         self.implicit_of(Class::ContextSpecific, number)
     }
 
-    /// The same of a tag of another class.
+    /// `implicit` with another class.
     pub fn implicit_of(&mut self, class: Class, number: u32) -> &mut Cursor<'a>
         ensures same { result.ghost_name ≡ self.entry.ghost_name }
         ensures tagged { IsTagged class number self.old result.now }
@@ -105,8 +105,7 @@ impl<'a> Cursor<'a> {
         self.left.is_empty()
     }
 
-    /// The number of octets of the input before the cursor, if each parser that was called left an
-    /// end of its input.
+    /// The offset of the cursor in the input. It is exact if each parser that was called left an end of its input.
     pub fn offset(&self) -> usize
         ensures { result ≡ place_of self.now }
     {
@@ -121,8 +120,8 @@ impl<'a> Cursor<'a> {
         self.left.first().copied()
     }
 
-    /// Reads the value that the parser reads. An error has the offset where the parser was called,
-    /// and the cursor stays there.
+    /// Calls the parser once on the octets that are left, and returns its value. If it fails, the error has the
+    /// cursor's offset, and the cursor stays there.
     pub fn read<O, F, E>(&mut self, parser: F) -> Result<O, Refusal<E>>
     where
         F: FnOnce(&'a [u8]) -> IResult<&'a [u8], O, E>,
@@ -138,7 +137,7 @@ impl<'a> Cursor<'a> {
         }
     }
 
-    /// The same with a parser that allocates.
+    /// `read` with a parser that allocates.
     pub fn read_in<O, F, E>(&mut self, alloc: Global, parser: F) -> Result<O, Refusal<E>>
     where
         F: FnOnce(Global, &'a [u8]) -> IResult<&'a [u8], O, E>,
@@ -154,8 +153,7 @@ impl<'a> Cursor<'a> {
         }
     }
 
-    /// Reads the value that the parser reads, which has to be the last one. Eof if octets are left
-    /// over after it.
+    /// `read` for the last value. Eof if there is trailing data.
     pub fn read_last<O, F, E>(mut self, parser: F) -> Result<O, Refusal<E>>
     where
         F: FnOnce(&'a [u8]) -> IResult<&'a [u8], O, E>,
@@ -170,7 +168,7 @@ impl<'a> Cursor<'a> {
         }
     }
 
-    /// The same with a parser that allocates.
+    /// `read_last` with a parser that allocates.
     pub fn read_last_in<O, F, E>(mut self, alloc: Global, parser: F) -> Result<O, Refusal<E>>
     where
         F: FnOnce(Global, &'a [u8]) -> IResult<&'a [u8], O, E>,
@@ -185,7 +183,7 @@ impl<'a> Cursor<'a> {
         }
     }
 
-    /// Returns a value if no octets are left over after it.
+    /// Returns a value if no octets are left after it, else Eof.
     fn last<O, E>(self, value: O) -> Result<O, Refusal<E>>
     where
         O: Drop,
@@ -199,8 +197,8 @@ impl<'a> Cursor<'a> {
         Err(self.refused(Refused::Error(e)))
     }
 
-    /// The values that `read` reads, which is called until no octets are left. Many0 if a call reads
-    /// no octets.
+    /// Calls `read` until no octets are left, and returns the values. An error of `read` is returned as it is. Many0 if
+    /// a call reads no octets, OutOfMemory if there is no memory for a value; both have the offset of that call.
     pub fn read_all<O, F, E>(self, alloc: Global, mut read: F) -> Result<Vec<O>, Refusal<E>>
     where
         F: FnMut(Global, &mut Cursor<'a>) -> Result<O, Refusal<E>> + Drop,
@@ -250,7 +248,7 @@ impl<'a> Cursor<'a> {
         self.open_type(false, Tag::OctetString)
     }
 
-    /// Opens an element of a universal type, or of the implicit tag that it has.
+    /// Opens an element of a universal type, or of its implicit tag.
     fn open_type(&mut self, constructed: bool, tag: Tag) -> Result<Cursor<'a>, Refusal<BerError>>
         ensures { OpensType constructed tag.0 self.old result self.new }
     {
@@ -272,9 +270,9 @@ impl<'a> Cursor<'a> {
         }
     }
 
-    /// A cursor over the content of the next element, which has to have this class, constructed bit
-    /// and tag number. Errors are those of `Any::from_der`, then UnexpectedClass, UnexpectedTag,
-    /// and ConstructExpected or ConstructUnexpected.
+    /// A cursor over the content of the next element, which has to have this class, constructed bit and tag number.
+    /// Errors: those of `Any::from_ber` or `Any::from_der`, then UnexpectedClass, UnexpectedTag, and ConstructExpected
+    /// or ConstructUnexpected.
     pub fn open(
         &mut self,
         class: Class,
@@ -288,7 +286,7 @@ impl<'a> Cursor<'a> {
             Err(e) => return Err(e),
         };
         self.advance(found.rest);
-        // The content ends where the next element begins, or at the end marker in front of it.
+        // The content ends where the next element begins, or at the end-of-contents octets before it.
         let end = self.offset().saturating_sub(found.marker);
         Ok(Cursor {
             left: found.content,
@@ -315,7 +313,7 @@ impl<'a> Cursor<'a> {
         }
     }
 
-    /// The same of an element with any header.
+    /// `find` for an element with any header.
     fn find_any(
         &self,
         class: Class,
@@ -335,7 +333,7 @@ impl<'a> Cursor<'a> {
         }
     }
 
-    /// Goes on with these octets, and forgets the implicit tag of the element before them.
+    /// Goes on with these octets, and forgets the implicit tag.
     pub(crate) fn advance(&mut self, rest: &'a [u8])
         ensures { self.new ≡ advanced self.old rest.entry }
     {
@@ -343,7 +341,7 @@ impl<'a> Cursor<'a> {
         self.implicit = None;
     }
 
-    /// The class that an element of a universal type has to have.
+    /// The class that the next element must have: that of its implicit tag, or Universal.
     pub(crate) fn class_wanted(&self) -> Class
         ensures { result ≡ class_wanted self.now.implicit }
     {
@@ -353,7 +351,7 @@ impl<'a> Cursor<'a> {
         }
     }
 
-    /// The tag number that it has to have.
+    /// The tag number that the next element must have: that of its implicit tag, or of its type.
     pub(crate) fn tag_wanted(&self, tag: Tag) -> Tag
         ensures { result.0 ≡ number_wanted self.now.implicit tag.0 }
     {
@@ -363,8 +361,8 @@ impl<'a> Cursor<'a> {
         }
     }
 
-    /// Checks that the next element, if there is one, is of the class Universal (8.1.2.2). The
-    /// readers of one type compare the tag number alone. UnexpectedClass if it is of another class.
+    /// UnexpectedClass if the next element isn't of class Universal (8.1.2.2). The readers of one type only compare the
+    /// tag number.
     pub fn assert_universal(&self) -> Result<(), Refusal<BerError>>
         ensures { AssertsUniversal self.now result }
     {
@@ -379,7 +377,7 @@ impl<'a> Cursor<'a> {
         Err(self.refused(Refused::Error(e)))
     }
 
-    /// Ends a list. Eof if octets are left over.
+    /// Ends a list. Eof if there is trailing data.
     pub fn end(self) -> Result<(), Refusal<BerError>>
         ensures { EndsAt self.entry result }
     {
@@ -389,15 +387,14 @@ impl<'a> Cursor<'a> {
         Ok(())
     }
 
-    /// The error of the next element for a reason of the caller's, such as a value that the format
-    /// doesn't have.
+    /// An error at the next element for a reason of the caller's, such as a value that the format doesn't have.
     pub fn refuse(&self, e: BerError) -> Refusal<BerError>
         ensures { result ≡ refusal_at self.now (Refused.Error e) }
     {
         self.refused(Refused::Error(e))
     }
 
-    /// The error of the next element.
+    /// An error at the next element.
     pub(crate) fn refused<E>(&self, reason: Refused<E>) -> Refusal<E>
         ensures { result ≡ refusal_at self.now reason }
     {
@@ -408,8 +405,7 @@ impl<'a> Cursor<'a> {
         }
     }
 
-    /// The number of octets of the input before the end of the list that the cursor reads, if that
-    /// is the content of an element.
+    /// The offset where the content that the cursor reads ends. None if it reads the input itself.
     fn list_end(&self) -> Option<usize>
         ensures { result ≡ list_end_of self.now }
     {
@@ -417,8 +413,8 @@ impl<'a> Cursor<'a> {
     }
 }
 
-/// Finds an element of this class, constructed bit and tag number with a header of two octets, as most
-/// have (8.1.2.2, 8.1.3.4).
+/// Finds an element of this class, constructed bit and tag number with a header of two octets, as most have (8.1.2.2,
+/// 8.1.3.4).
 #[inline(always)]
 fn find_short<'a>(i: &'a [u8], class: Class, constructed: bool, tag: Tag) -> Option<Found<'a>>
     ensures { IfSome result (λ x. (x.marker ≡ 0)
@@ -438,7 +434,7 @@ fn find_short<'a>(i: &'a [u8], class: Class, constructed: bool, tag: Tag) -> Opt
     })
 }
 
-/// How many octets of an end marker follow a content of this length (8.1.3.6).
+/// How many end-of-contents octets follow a content with this length (8.1.3.6).
 fn marker_size(length: Length) -> usize
     ensures { result ≡ marker_size length }
 {

@@ -1,11 +1,13 @@
-//! Calls of a cursor that read the value of one type. Each asks for the class, the tag number and the
-//! primitive form, then reads the content octets.
+//! Calls of a cursor that read the value of one type. Each checks the class, the tag number and the primitive form,
+//! then reads the content octets.
 //!
-//! An error has the offset of the element, and the cursor stays there. The errors come in this order:
-//! those of the header (by BER also of the framing of an indefinite length); UnexpectedClass,
-//! UnexpectedTag, ConstructUnexpected; those of the content octets, which each call names. An element
-//! that is cut short is Incomplete, and inside a list the error Incomplete, since no further octets mend
-//! it there.
+//! An error has the offset of the element, and the cursor stays there. It is the first of these:
+//! - those of the header, by BER also of the framing of an indefinite length;
+//! - UnexpectedClass, UnexpectedTag, ConstructUnexpected;
+//! - those of the content octets, which each call names.
+//!
+//! If the input ends within the element, it is Incomplete. If a list ends there, it is the error Incomplete, since more
+//! octets don't help.
 ghost use Rattle.std.specs.Prelude.{IsTrue, pos};
 ghost use Rattle.der_base.specs.Leaf.{is_time};
 ghost use Rattle.der_base.specs.Numbers.{signed, unsigned};
@@ -105,7 +107,7 @@ impl<'a> Cursor<'a> {
         self.take(rest, read_null(self.rules, octets))
     }
 
-    /// An OBJECT IDENTIFIER (8.19), as `read_identifier`: one whose arcs are padded is refused.
+    /// An OBJECT IDENTIFIER (8.19), as `read_identifier`: padded arcs are rejected.
     pub fn oid(&mut self) -> Result<ObjectIdentifier<'a>, Refusal<BerError>>
         ensures { ReadsValue borrowed_octets identifiers 6 self.old result self.new }
     {
@@ -150,7 +152,7 @@ impl<'a> Cursor<'a> {
         self.text(Tag::GeneralString)
     }
 
-    /// The time of a UTCTime (8.25, 11.8), of a year from 1950 to 2049, as `read_time`.
+    /// The time of a UTCTime (8.25, 11.8), with a year from 1950 to 2049, as `read_time`.
     pub fn utc_time(&mut self) -> Result<ASN1DateTime, Refusal<BerError>>
         ensures { ReadsValue (λ v. v) (times self.old.rules 23) 23 self.old result self.new }
     {
@@ -166,8 +168,8 @@ impl<'a> Cursor<'a> {
         self.take(rest, read_time(self.rules, Tag::GeneralizedTime, octets))
     }
 
-    /// Finds the next element as a primitive one of a universal type, or of the implicit tag that it
-    /// has. Returns its content octets after what follows it.
+    /// Finds the next element as a primitive one of a universal type, or of its implicit tag. Returns what follows it,
+    /// and its content octets.
     fn primitive(&self, tag: Tag) -> Result<(&'a [u8], &'a [u8]), Refusal<BerError>>
         ensures { FindsPrimitive tag.0 self.now result }
     {

@@ -4,8 +4,8 @@ ghost use Rattle.der_cursor.specs.Laws.{PlacesCount, NewStand, EndsStand, Opened
 
 use crate::cursor::Cursor;
 
-/// The offset of a cursor is the number of octets of the input before those that are left, if each
-/// parser that was called left an end of its input.
+/// The offset of a cursor is the number of octets of the input before those that are left. Each parser that was called
+/// has to leave an end of its input.
 pub fn places_are_exact()
     ensures places { PlacesCount }
     ensures new { NewStand }

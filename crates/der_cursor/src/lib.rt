@@ -1,5 +1,5 @@
-//! Reading field by field, by BER and by DER: a cursor over the elements of a content, with a call for the
-//! value of each type. It knows the offset of each element in the input, so that an error has one.
+//! Reading field by field, by BER and by DER: a cursor over the elements of a content, with a call for the value of
+//! each type. An error has the offset of the element in the input.
 #![tactic(auto)]
 
 mod cursor;

@@ -11,12 +11,12 @@ use der_base::header::{Class, Tag};
 use std::error::Error;
 use std::fmt;
 
-/// How many names an error keeps: the innermost.
+/// How many names an error keeps. They are the innermost ones.
 pub(crate) const MOST_NAMES: usize = 8;
 
 impl Refusal<BerError> {
-    /// The same error, of a part of an element that the input holds whole. No further octets help, so
-    /// `Err::Incomplete` becomes the error Incomplete.
+    /// The error for a part of an element that the input holds in full: more octets don't help, so `Err::Incomplete`
+    /// becomes the error Incomplete.
     pub fn settled(self) -> Refusal<BerError>
         ensures { Settles self result }
     {
@@ -27,9 +27,9 @@ impl Refusal<BerError> {
         }
     }
 
-    /// The error of an input that has to be one element of this class, constructed bit and tag number, where
-    /// its reader returned this one. If the input ends within the element, or begins with another, it is the
-    /// error of `Cursor::open`, and else this one, settled: Incomplete says that the element is cut.
+    /// The error for an input that has to be one element of this class, constructed bit and tag number, if its reader
+    /// returned this error. If the input ends within that element or begins with another, it is the error of
+    /// `Cursor::open`. Otherwise it is this error, settled. So Incomplete means that the input ends within the element.
     pub fn of_element(
         self,
         input: Cursor<'_>,
@@ -47,8 +47,7 @@ impl Refusal<BerError> {
     }
 }
 
-/// An error with the names of the fields that its element is in:
-/// "tbsCertificate.serialNumber at 13: ..".
+/// An error with the names of the fields around its element: "tbsCertificate.serialNumber at 13: ..".
 #[derive(Drop)]
 pub struct FieldRefusal {
     /// The outermost first.
@@ -58,15 +57,15 @@ pub struct FieldRefusal {
 }
 
 impl FieldRefusal {
-    /// The names of the fields that the element is in, the outermost first. The innermost eight are kept.
+    /// The names of the fields around the element, the outermost first. The innermost eight are kept.
     pub fn names(&self) -> &[&'static str]
         ensures { result.now ≡ names_of self.now }
     {
         self.names.as_slice()
     }
 
-    /// The same error, of a field of an element that the input holds whole. No further octets help, so
-    /// `Err::Incomplete` becomes the error Incomplete.
+    /// The error for a field of an element that the input holds in full: more octets don't help, so `Err::Incomplete`
+    /// becomes the error Incomplete.
     pub fn settled(self) -> FieldRefusal
         ensures { IsSettled self result }
     {
@@ -77,7 +76,7 @@ impl FieldRefusal {
         }
     }
 
-    /// As `Refusal::of_element`, with the names that the error has.
+    /// `Refusal::of_element`, keeping the names.
     pub fn of_element(
         self,
         input: Cursor<'_>,
@@ -115,7 +114,7 @@ impl fmt::Display for FieldRefusal {
 
 impl Error for FieldRefusal {}
 
-/// Names the field that a result is of, which an error then has.
+/// Adds the name of a field to its error.
 ///
 /// ```
 /// let serial_number = fields.integer().named("serialNumber")?;
@@ -127,7 +126,7 @@ pub trait Named<T> {
 
     ghost names: { Self → Bor (List ℕ) → Result T FieldRefusal → Type 0 };
 
-    /// The value, or the error with this name in front of those that it has, of which the last eight are kept.
+    /// The value, or the error with this name before its other names. The innermost eight are kept.
     fn named(self, name: &'static str) -> Result<T, FieldRefusal>
         ensures { names self name.entry result };
 }

@@ -1,5 +1,5 @@
-//! Values that may be absent. Each is read iff its identifier octets are next: the class and the number
-//! of its type, or those of an implicit tag. Where they aren't, nothing is read.
+//! Values that may be absent. A value is read iff the next identifier octets have the class and number of its type, or
+//! of its implicit tag. Otherwise nothing is read.
 ghost use Rattle.std.specs.Prelude.{◌≡◌, ◌↔◌, ◌≤◌, ◌+◌, ◌/◌, ◌%◌, ◌++◌, ℕ, List, IsTrue, pos};
 ghost use Rattle.der_base.specs.Numbers.{unsigned};
 ghost use Rattle.der_base.specs.Octets.{class_number, groups};
@@ -33,7 +33,7 @@ impl<'a> Cursor<'a> {
         }
     }
 
-    /// Whether the next element is of this type, or of the implicit tag that it has.
+    /// Whether the next element is of this type, or of its implicit tag.
     fn is_next_type(&self, tag: Tag) -> bool
         ensures { IsTrue result ↔ IsNextType tag.0 self.now }
     {
@@ -167,8 +167,7 @@ impl<'a> Cursor<'a> {
         }
     }
 
-    /// A BOOLEAN with a default, which is its value if it isn't next. By DER a value that is the default
-    /// isn't encoded (11.5): BerValueError.
+    /// A BOOLEAN, or the default if none is next. By DER the default isn't encoded (11.5): BerValueError.
     pub fn boolean_or(&mut self, default: bool) -> Result<bool, Refusal<BerError>>
         ensures { ReadsOr (λ v. v) (booleans self.old.rules) 1 default self.old result self.new }
     {
@@ -188,8 +187,8 @@ impl<'a> Cursor<'a> {
         Ok(value)
     }
 
-    /// The number of an INTEGER from 0 to 2^32-1 with a default, as `boolean_or`: `version INTEGER DEFAULT
-    /// 0` is `u32_or(0)`.
+    /// The number of an INTEGER from 0 to 2^32-1 or the default, as `boolean_or`: `version INTEGER DEFAULT 0` is
+    /// `u32_or(0)`.
     pub fn u32_or(&mut self, default: u32) -> Result<u32, Refusal<BerError>>
         ensures { ReadsOr pos (numbers self.old.rules (unsigned 32)) 2 default self.old result self.new }
     {
@@ -209,7 +208,7 @@ impl<'a> Cursor<'a> {
         Ok(number)
     }
 
-    /// The time of a UTCTime or a GeneralizedTime, as `Time` of RFC 5280 (4.1): the one that is next.
+    /// The time of a UTCTime or a GeneralizedTime, whichever is next: `Time` of RFC 5280 (4.1).
     pub fn time(&mut self) -> Result<ASN1DateTime, Refusal<BerError>>
         ensures { ReadsTime self.old result self.new }
     {
@@ -220,7 +219,7 @@ impl<'a> Cursor<'a> {
         }
     }
 
-    /// The next element, whatever it is: its header and its content octets, which aren't looked into.
+    /// The next element, whatever it is. Its content isn't checked.
     pub fn any(&mut self) -> Result<Any<'a>, Refusal<BerError>>
         ensures { ReadsAnyAt self.old result self.new }
     {
@@ -249,8 +248,8 @@ fn begins_with_long_tag(left: &[u8], class: Class, tag: Tag) -> bool
     }
 }
 
-/// Whether the octets begin with the fewest groups of seven bits that spell the number, each but the
-/// last with the high bit (8.1.2.4.2).
+/// Whether the octets begin with the number in the fewest groups of seven bits, each but the last with the high bit
+/// (8.1.2.4.2).
 fn begins_with_groups(octets: &[u8], n: u32) -> bool
     ensures { IsTrue result ↔ ((rest : List ℕ) × (octets.now ≡ groups n ++ rest)) }
 {

@@ -1,4 +1,4 @@
-//! Errors and their texts.
+//! Errors of a cursor, with the offset and the reason, and their texts.
 ghost use Rattle.std.specs.Prelude.{◌≡◌, Some};
 ghost use Rattle.der_cursor.specs.Cursors.{is_at_end};
 
@@ -8,24 +8,21 @@ use std::fmt;
 
 /// Why a cursor read no value, and where.
 ///
-/// More octets help only where the reason is `Err::Incomplete` and `list_end` is None: then the
-/// input as a whole is cut short. `Err::Incomplete` with a `list_end`, and `BerError::Incomplete`,
-/// mean that an element runs past the end of the list that it is in, which no further octets mend.
-/// The number in either is the parser's: the readers of one universal type by DER give the length of
-/// the content, and all others the octets that are missing.
+/// More octets help only if the reason is `Err::Incomplete` and `list_end` is None: the input is cut short. Otherwise
+/// `Err::Incomplete` and `BerError::Incomplete` mean that an element runs past the end of its list. The number is the
+/// parser's: readers of one universal type by DER give the length of the content, all others the missing octets.
 #[derive(Debug, Drop)]
 pub struct Refusal<E> {
-    /// The number of octets of the input before the refused element.
+    /// The offset of the rejected element in the input.
     pub offset: usize,
-    /// The number of octets of the input before the end of the list that the element is in. None
-    /// if it is in no list.
+    /// The offset of the end of the list that the element is in. None if it is in no list.
     pub list_end: Option<usize>,
     /// What the parser returned in place of a value.
     pub reason: Refused<E>,
 }
 
 impl<E> Refusal<E> {
-    /// Whether the refused element is where its list ends.
+    /// Whether the rejected element would begin where its list ends.
     fn is_at_end(&self) -> bool
         ensures { result ≡ is_at_end self.now.list_end self.now.offset }
     {
@@ -56,8 +53,8 @@ impl AsBerError for BerError {
     }
 }
 
-/// The offset and the reason: "at 13: an element runs past the end of its list, needs 9". An error has
-/// its own text, except for a cut item, `Eof` ("octets left over or missing") and `Many0`.
+/// The offset and the reason: "at 13: an element runs past the end of its list, needs 9". An error has its own text,
+/// except for a cut item, `Eof` ("octets left over or missing") and `Many0`.
 impl<E: fmt::Display + AsBerError> fmt::Display for Refusal<E> {
     ghost use Rattle.der_cursor.specs.Cursors.{refusal_text};
 
@@ -70,7 +67,7 @@ impl<E: fmt::Display + AsBerError> fmt::Display for Refusal<E> {
 
 impl<E: fmt::Debug + fmt::Display + AsBerError + Drop> Error for Refusal<E> {}
 
-/// The reason of an error in words.
+/// The text of a reason.
 #[derive(Clone, Copy)]
 struct Reason<'r, E>(&'r Refusal<E>);
 
@@ -148,7 +145,7 @@ impl fmt::Display for Needs {
     }
 }
 
-/// An error in words, of an element that is at the end of its list or not.
+/// The text of an error, and whether its element would begin where its list ends.
 #[derive(Clone, Copy)]
 struct Fault<'r, E>(bool, &'r E);
 

@@ -1,4 +1,4 @@
--- The Name of a general name is that of a certificate, which der_x509 writes in words of its own.
+-- The Name of a general name is that of a certificate, which x509 writes in words of its own.
 use Rattle.std.proofs.Common.{◌≡◌, ℕ, List, [], ◌∷◌, length, true, refl, sym, ap, subst, ◌∙◌, arith}
 use Rattle.der_base.specs.declared.header.Class.TheVariants.{Universal}
 use Rattle.der_base.specs.declared.rules.Rules.TheVariants.{Der}
@@ -7,8 +7,8 @@ use Rattle.der_cursor.specs.Formats.{AnyElement, Each, End, Field, Required, Val
 use Rattle.der_cursor.proofs.FormatLaws.{required_takes}
 use Rattle.der_extensions.specs.GeneralNames.{AttributeTypeAndValue, AttributeValue, Name, RelativeDistinguishedName}
 use Rattle.der_extensions.specs.Lists.{IsListOf, ListOf, SomeOf, TakesOctets}
-use Rattle.der_x509.specs.Certificates.{Attribute, attribute, name, relative_name}
-use Rattle.der_x509.specs.Formats.{Fault, Format, Items, each, more, none, spells}
+use Rattle.x509.specs.Certificates.{Attribute, attribute, name, relative_name}
+use Rattle.x509.specs.Formats.{Fault, Format, Items, each, more, none, spells}
 
 -- attributes
 attribute_to : (i : List ℕ) (v : AttributeValue) (rest : List ℕ) → Required AttributeTypeAndValue Der i v rest → (a : Attribute) × spells attribute i a rest

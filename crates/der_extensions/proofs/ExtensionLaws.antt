@@ -1,11 +1,8 @@
 -- What a reader of a value that stands in a struct needs besides the laws of der_cursor.
 use Rattle.std.proofs.Common.{◌≡◌, Err, Ok, false, ap, sym, subst, ◌∙◌}
-use Rattle.der_base.specs.Arcs.{arcs}
 use Rattle.der_cursor.specs.declared.cursor.Cursor.{Cursor}
 use Rattle.der_cursor.specs.Cursors.{octets_left, rules_of}
 use Rattle.der_cursor.specs.Formats.{Field, ReadsField}
-use Rattle.der_values.proofs.Identifiers.{identifier_arcs}
-use Rattle.der_extensions.specs.Laws.{ArcsAreOfOctets}
 
 -- a value that was read, in a struct
 pub wrapped : {T U V E : Type 0} {F : Field V} {view : T → V} {whole : U → V} {May : E → Type 0} {old new : Cursor} {x : T} {y : U} → whole y ≡ view x → ReadsField {E = E} F view May old (Ok x) new
@@ -19,10 +16,3 @@ wrapped {F = F} {old = old} {new = new} q h fresh = let r = h fresh in record {
 pub unwrapped : {T U V E : Type 0} {F : Field V} {view : T → V} {whole : U → V} {May : E → Type 0} {old new after : Cursor} {e : E} → ReadsField F view May old (Err e) new
     → ReadsField F whole May old (Err e) after
 unwrapped h fresh = record { found = tt; only = λ v rest z. (h fresh).only v rest z }
-
--- the identifier of an extension that was read has the arcs of its octets
-pub arcs_read : ArcsAreOfOctets
-arcs_read i rest e s =
-    let g = s.3.0.1 in
-    let octets = ap (λ z. z.identifier) g.3.3.3.3.0 ∙ g.2.2 in
-    identifier_arcs e.identifier g.2.0 g.2.1 octets ∙ sym (ap (arcs false) octets)

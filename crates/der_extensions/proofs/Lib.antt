@@ -1,10 +1,9 @@
-pub mod ArcOctets
 pub mod CertificateNames
 pub mod DefaultLaws
 pub mod ExtensionLaws
-pub mod KindLaws
+pub mod KnownLaws
 pub mod ListLaws
 pub mod NameLaws
+pub mod NoticeLaws
 pub mod PointLaws
-pub mod UnknownLaws
 pub mod VectorLaws

@@ -1,4 +1,4 @@
--- The values of extensions (RFC 5280 4.2), as their ASN.1 has them, and what the structs of the code stand for.
+-- The values of extensions (RFC 5280 4.2), as their ASN.1 has them, and the values of the structs in the code.
 use Rattle.std.specs.Prelude.{◌≡◌, ◌⊎◌, ℕ, ◌<◌, ◌-◌, ◌/◌, ◌%◌, ◌^◌, ℤ, pos, Bool, false}
 use Rattle.std.specs.Prelude.{Option, List, [], length, slice_get}
 use Rattle.std.specs.Option.{option_map, IsSomeAnd}
@@ -20,7 +20,7 @@ use Rattle.der_extensions.specs.declared.name_constraints.NameConstraints as nam
 use Rattle.der_extensions.specs.GeneralNames.{GeneralName, GeneralNames, NameValue, RelativeDistinguishedName, name_of}
 use Rattle.der_extensions.specs.Lists.{SomeOf, list_octets}
 use Rattle.der_values.specs.Kinds.{borrowed_octets}
-use Rattle.der_x509.specs.Certificates.{bits_of}
+use Rattle.x509.specs.Certificates.{bits_of}
 
 abbrev pub ConstraintsValue : Type 0
 ConstraintsValue = Bool × (Option ℤ × Unit {0})

@@ -1,4 +1,4 @@
--- General names (RFC 5280 4.2.1.6), as their ASN.1 has them, and what the values of the code stand for.
+-- General names (RFC 5280 4.2.1.6), as their ASN.1 has them, and the values of the types in the code.
 use Rattle.std.specs.Prelude.{◌≡◌, ℕ, List}
 use Rattle.der_cursor.specs.Formats.{AnyElement, Element, End, Explicit, Field, Format, Implicit, ObjectIdentifier}
 use Rattle.der_cursor.specs.Formats.{OctetString, Octets, Required, Sequence, Set, Text, element_of, ◌⨾◌}
@@ -7,7 +7,7 @@ use Rattle.der_extensions.specs.declared.general_name.GeneralName.TheVariants as
 use Rattle.der_extensions.specs.declared.general_name.OtherName.{OtherName as OtherStruct}
 use Rattle.der_extensions.specs.Lists.{ListOf, SomeOf}
 use Rattle.der_values.specs.Kinds.{borrowed_octets}
-use Rattle.der_x509.specs.declared.name.AttributeTypeAndValue.{AttributeTypeAndValue as AttributeStruct}
+use Rattle.x509.specs.declared.name.AttributeTypeAndValue.{AttributeTypeAndValue as AttributeStruct}
 
 abbrev pub AttributeValue : Type 0
 AttributeValue = List ℕ × (Element × Unit {0})
@@ -20,7 +20,7 @@ AttributeTypeAndValue = Sequence (
     ⨾ End))
 
 -- RelativeDistinguishedName ::= SET SIZE (1..MAX) OF AttributeTypeAndValue
--- As in a certificate, the order of the attributes isn't asked.
+-- As in a certificate, the order of the attributes isn't checked.
 abbrev pub RelativeDistinguishedName : Format (List ℕ)
 RelativeDistinguishedName = Set (SomeOf (Required AttributeTypeAndValue))
 
@@ -38,7 +38,7 @@ OtherName = Sequence (
     ⨾ (Required (Explicit 0 AnyElement)  -- value      [0] EXPLICIT ANY DEFINED BY type-id }
     ⨾ End))
 
--- a name by its kind: the texts, octets and identifiers are theirs
+-- a name by its kind, with its text, octets or identifier
 pub data NameValue : Type 0 where
   other_name : OtherNameValue → NameValue
   rfc822_name : List ℕ → NameValue
@@ -51,7 +51,7 @@ pub data NameValue : Type 0 where
   registered_id : List ℕ → NameValue
 
 -- GeneralName ::= CHOICE {                                              (4.2.1.6)
--- The content octets of an ORAddress and of an EDIPartyName aren't asked. A tag of a choice is explicit.
+-- The content octets of an ORAddress and of an EDIPartyName aren't checked. A tag of a choice is explicit.
 unfoldable pub GeneralName : Field NameValue
 -- otherName                 [0]  OtherName,
 GeneralName r i (other_name v) rest = Required (Implicit 0 OtherName) r i v rest

@@ -1,8 +1,9 @@
 pub mod Extensions
 pub mod GeneralNames
-pub mod Kinds
+pub mod Known
 pub mod Laws
 pub mod Lists
+pub mod Notices
 pub mod PolicyExtensions
 pub mod Revocation
 pub mod Takes

@@ -1,4 +1,4 @@
--- Lists of one type, kept as their octets, and what an iterator over one gives.
+-- Lists of values of one type, kept as their octets, and what an iterator over one gives.
 use Rattle.std.specs.Prelude.{◌≡◌, ◌≢◌, ℕ, ◌<◌, List, [], length, Option, MatchOption}
 use Rattle.der_base.specs.declared.rules.Rules.{Rules}
 use Rattle.der_base.specs.declared.rules.Rules.TheVariants.{Der}
@@ -18,18 +18,18 @@ ListOf F r w v = (v ≡ w) × IsListOf F r w
 unfoldable pub SomeOf : {V : Type 0} → Field V → Content (List ℕ)
 SomeOf F r w v = (w ≢ []) × ListOf F r w v
 
--- a field has an octet at least
+-- a field has at least one octet
 abbrev pub TakesOctets : {V : Type 0} → Field V → Type 0
 TakesOctets {V} F = (r : Rules) (i : List ℕ) (v : V) (rest : List ℕ) → F r i v rest → length rest < length i
 
--- the octets of a list, and those of the values that an iterator has not yet given
+-- the octets of a list, and those of the values that an iterator hasn't given yet
 abbrev pub list_octets : {T : Type 0} → SequenceOf T → List ℕ
 list_octets x = x.octets.now
 
 abbrev pub items_left : {T : Type 0} → Items T → List ℕ
 items_left x = x.left.now
 
--- the octets i begin with the value v by DER, which rest follows, and with no other
+-- the octets i begin with the value v by DER, followed by rest, and with no other value
 pub record BeginsWith {V : Type 0} (F : Field V) (i : List ℕ) (v : V) (rest : List ℕ) : Type 0 where
   pub found : F Der i v rest
   pub only : (u : V) (k : List ℕ) → F Der i u k → (v ≡ u) × (rest ≡ k)
@@ -37,8 +37,8 @@ pub record BeginsWith {V : Type 0} (F : Field V) (i : List ℕ) (v : V) (rest : 
 abbrev pub BeginsWithNone : {V : Type 0} → Field V → List ℕ → Type 0
 BeginsWithNone {V} F i = (v : V) (rest : List ℕ) → ¬ F Der i v rest
 
--- A call of `next` gives the value that the octets begin with, and those after it are left. It gives None where they
--- begin with none, and they are left.
+-- A call of `next` gives the value that the octets begin with, and leaves those after it. If they begin with no value,
+-- it gives None and leaves them.
 module _ {S A V : Type 0} (left : S → List ℕ) (view : A → V) (F : Field V) where
   abbrev pub YieldsNext : S → Option A → S → Type 0
   YieldsNext s r t = MatchOption r (BeginsWithNone F (left s) × (left t ≡ left s))

@@ -1,5 +1,5 @@
 -- The values of extensions about policies and attributes (RFC 5280 4.2.1.5, 4.2.1.8, 4.2.1.11, 4.2.1.14), as their
--- ASN.1 has them, and what the structs of the code stand for.
+-- ASN.1 has them, and the values of the structs in the code.
 use Rattle.std.specs.Prelude.{ℕ, ℤ, pos, Option, List}
 use Rattle.std.specs.Option.{option_map}
 use Rattle.der_base.specs.Numbers.{unsigned}
@@ -50,7 +50,7 @@ policy_constraints_of x =
     (option_map pos x.require_explicit_policy, (option_map pos x.inhibit_policy_mapping, tt))
 
 -- values SET OF AttributeValue -- at least one value is required         (A.1)
--- The order of the values isn't asked.
+-- The order of the values isn't checked.
 abbrev pub AttributeValues : Format (List ℕ)
 AttributeValues = Set (SomeOf AnyElement)
 

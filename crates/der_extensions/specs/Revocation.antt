@@ -1,5 +1,4 @@
--- The values of extensions of lists of revoked certificates (RFC 5280 5.2), as their ASN.1 has them, and what the
--- structs of the code stand for.
+-- The values of extensions of CRLs (RFC 5280 5.2), as their ASN.1 has them, and the values of the structs in the code.
 use Rattle.std.specs.Prelude.{ℕ, pos, ◌<ℤ◌, Bool, false, Option, List}
 use Rattle.std.specs.Option.{option_map}
 use Rattle.der_base.specs.Octets.{integer_value}
@@ -7,9 +6,9 @@ use Rattle.der_cursor.specs.Formats.{Boolean, Default, End, Format, Implicit, In
 use Rattle.der_cursor.specs.Formats.{OptionalTagged, Sequence, ◌⨾◌}
 use Rattle.der_extensions.specs.declared.issuing_distribution_point.IssuingDistributionPoint as issuing
 use Rattle.der_extensions.specs.Extensions.{DistributionPointName, PointNameValue, ReasonFlags, point_name_of}
-use Rattle.der_x509.specs.Certificates.{bits_of}
+use Rattle.x509.specs.Certificates.{bits_of}
 
--- the number isn't below 0
+-- the number isn't negative
 abbrev pub IsNatural : List ℕ → Type 0
 IsNatural v = ¬ (integer_value v <ℤ pos 0)
 

@@ -1,4 +1,4 @@
--- A general name and any element have an octet at least, so a list of them ends.
+-- A general name and any element have at least one octet, so a list of them ends.
 use Rattle.der_cursor.specs.Formats.{AnyElement, Explicit, Implicit, ObjectIdentifier, OctetString, Octets, Required}
 use Rattle.der_cursor.specs.Formats.{Sequence, Text}
 use Rattle.der_cursor.proofs.FormatLaws.{element_takes, required_takes}

@@ -1,4 +1,4 @@
--- The values of extensions of the web, as their ASN.1 has them, and what the structs of the code stand for.
+-- The values of extensions of the web PKI, as their ASN.1 has them, and the values of the structs in the code.
 use Rattle.std.specs.Prelude.{◌≡◌, ◌≢◌, ℕ, ℤ, pos, ◌+◌, ◌*◌, ◌≤◌, Option, List, [], ◌∷◌, ◌++◌, length}
 use Rattle.std.specs.Option.{option_map}
 use Rattle.der_base.specs.declared.rules.Rules.TheVariants.{Der}
@@ -27,7 +27,7 @@ Features = Sequence (ListOf (Required Feature))
 abbrev pub feature_of : TlsFeature → ℤ
 feature_of x = pos x.number
 
--- opaque <1..2^16-1>: how many octets there are, in two octets, and these, one at least (RFC 5246 4.3)
+-- opaque <1..2^16-1>: the number of octets, in two octets, and then the octets, at least one (RFC 5246 4.3)
 unfoldable pub Vector : Field (List ℕ)
 Vector r i v rest = (high low : ℕ) × (i ≡ high ∷ low ∷ (v ++ rest)) × (length v ≡ high * 256 + low) × (v ≢ [])
 

@@ -1,4 +1,4 @@
-//! Whether the subject is an authority (RFC 5280 4.2.1.9).
+//! BasicConstraints: whether the subject is a CA (RFC 5280 4.2.1.9).
 ghost use Rattle.der_base.specs.declared.rules.Rules.{Rules};
 ghost use Rattle.der_cursor.specs.Formats.{Never, Only, ReadsField, ReadsInput, ReadsWhole, Required};
 ghost use Rattle.der_extensions.specs.Extensions.{BasicConstraints as ConstraintsFormat, constraints_of};
@@ -8,17 +8,15 @@ use der_base::header::{Class, Tag};
 use der_cursor::{Cursor, Refusal};
 
 /// The value of the extension BasicConstraints.
-#[derive(Clone, Copy, Debug, PartialEq)]
+#[derive(Clone, Copy, PartialEq)]
 pub struct BasicConstraints {
     /// Whether the key may verify signatures of certificates.
     pub ca: bool,
-    /// How many certificates of authorities may follow this one in a path. A certificate without a
-    /// limit has none here.
+    /// How many CA certificates may follow this one in a path. None if there is no limit.
     pub path_length: Option<u32>,
 }
 
-/// Reads the value of a BasicConstraints by DER. Octets left over are refused, and so is a path length
-/// above 2^32-1.
+/// Reads the value of a BasicConstraints by DER. Trailing data is an error, and so is a path length above 2^32-1.
 pub fn read_basic_constraints(octets: &[u8]) -> Result<BasicConstraints, Refusal<BerError>>
     ensures { ReadsInput Rules.Der ConstraintsFormat constraints_of Never octets.now result }
 {

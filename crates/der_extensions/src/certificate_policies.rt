@@ -1,4 +1,4 @@
-//! The policies by which a certificate was issued (RFC 5280 4.2.1.4).
+//! CertificatePolicies: the policies under which a certificate was issued (RFC 5280 4.2.1.4).
 ghost use Rattle.std.specs.Option.{option_map};
 ghost use Rattle.der_base.specs.declared.rules.Rules.{Rules};
 ghost use Rattle.der_cursor.specs.Formats.{Never, Optional, ReadsField, ReadsInput, Required};
@@ -14,27 +14,27 @@ use der_base::header::{Class, Tag};
 use der_cursor::{Cursor, Refusal};
 use der_values::ObjectIdentifier;
 
-/// Policies, one at least.
+/// At least one policy.
 pub type CertificatePolicies<'a> = SequenceOf<'a, PolicyInformation<'a>>;
 
 /// A policy.
-#[derive(Debug, Drop)]
+#[derive(Drop)]
 pub struct PolicyInformation<'a> {
     pub policy_identifier: ObjectIdentifier<'a>,
-    /// One at least, if there are any.
+    /// At least one, if present.
     pub policy_qualifiers: Option<SequenceOf<'a, PolicyQualifierInfo<'a>>>,
 }
 
-/// What is said of a policy, as where its statement is.
-#[derive(Debug, Drop)]
+/// A qualifier of a policy, such as where its statement is published.
+#[derive(Drop)]
 pub struct PolicyQualifierInfo<'a> {
     pub policy_qualifier_id: ObjectIdentifier<'a>,
-    /// Of a type that the identifier names. Its content isn't looked into.
+    /// A value whose type the identifier names. Its content isn't checked.
     pub qualifier: Any<'a>,
 }
 
-/// Reads the value of a CertificatePolicies by DER: policies, of which there is one at least. Octets left
-/// over are refused. A policy that comes twice is read.
+/// Reads the value of a CertificatePolicies by DER: at least one policy. Trailing data is an error. A policy may come
+/// twice.
 pub fn read_certificate_policies(
     octets: &[u8],
 ) -> Result<CertificatePolicies<'_>, Refusal<BerError>>

@@ -1,4 +1,4 @@
-//! The number of a list of revoked certificates (RFC 5280 5.2.3, 5.2.4).
+//! CRLNumber: the number of a CRL (RFC 5280 5.2.3, 5.2.4).
 ghost use Rattle.std.specs.Prelude.{◌↔◌, IsTrue, pos, ◌<ℤ◌};
 ghost use Rattle.der_base.specs.declared.rules.Rules.{Rules};
 ghost use Rattle.der_base.specs.Octets.{integer_value};
@@ -10,9 +10,9 @@ use der_base::header::{Class, Tag};
 use der_base::integer::is_negative;
 use der_cursor::{Cursor, Refusal};
 
-/// Reads the value of a CRLNumber or of a deltaCRLIndicator (5.2.4) by DER: the content octets of the
-/// number, which isn't negative, the highest first. Octets left over are refused. That there are 20 octets
-/// at most isn't asked.
+/// Reads the value of a CRLNumber or of a deltaCRLIndicator (5.2.4) by DER. Returns the content octets of the number,
+/// the highest first. Trailing data is an error, and so is a negative number. The number may have more than the 20
+/// octets of RFC 5280.
 pub fn read_crl_number(octets: &[u8]) -> Result<&[u8], Refusal<BerError>>
     ensures { ReadsInput Rules.Der CRLNumber (λ x. x.now) Never octets.now result }
 {

@@ -1,4 +1,4 @@
-//! What else is said of the subject (RFC 5280 4.2.1.8).
+//! SubjectDirectoryAttributes: attributes of the subject (RFC 5280 4.2.1.8).
 ghost use Rattle.der_base.specs.declared.rules.Rules.{Rules};
 ghost use Rattle.der_cursor.specs.Formats.{Never, ReadsField, ReadsInput, Required};
 ghost use Rattle.der_extensions.specs.Lists.{list_octets};
@@ -13,20 +13,19 @@ use der_base::header::{Class, Tag};
 use der_cursor::{Cursor, Refusal};
 use der_values::ObjectIdentifier;
 
-/// Attributes, one at least.
+/// At least one attribute.
 pub type SubjectDirectoryAttributes<'a> = SequenceOf<'a, DirectoryAttribute<'a>>;
 
-/// An attribute of the subject, as its nationality.
-#[derive(Debug, Drop)]
+/// An attribute of the subject, such as the nationality.
+#[derive(Drop)]
 pub struct DirectoryAttribute<'a> {
     pub identifier: ObjectIdentifier<'a>,
-    /// Of a type that the identifier names, one at least. Their contents aren't looked into, and their
-    /// order isn't asked.
+    /// At least one value, of the type that the identifier names. Neither their contents nor their order is checked.
     pub values: SequenceOf<'a, Any<'a>>,
 }
 
-/// Reads the value of a SubjectDirectoryAttributes by DER: attributes, of which there is one at least.
-/// Octets left over are refused. An attribute that comes twice is read.
+/// Reads the value of a SubjectDirectoryAttributes by DER: at least one attribute. Trailing data is an error. An
+/// attribute may come twice.
 pub fn read_subject_directory_attributes(
     octets: &[u8],
 ) -> Result<SubjectDirectoryAttributes<'_>, Refusal<BerError>>
@@ -67,7 +66,7 @@ fn read_attribute<'a>(list: &mut Cursor<'a>) -> Result<DirectoryAttribute<'a>, R
     Ok(DirectoryAttribute { identifier, values })
 }
 
-/// Reads a SET OF values, of which there is one at least.
+/// Reads a SET OF with at least one value.
 fn read_values<'a>(fields: &mut Cursor<'a>) -> Result<SequenceOf<'a, Any<'a>>, Refusal<BerError>>
     ensures { ReadsField (Required AttributeValues) list_octets Never fields.old result fields.new }
 {

@@ -1,4 +1,4 @@
-//! Distinguished names (RFC 5280 4.1.2.4), in the words of fields.
+//! Distinguished names (RFC 5280 4.1.2.4), whose readers have the contracts of fields.
 ghost use Rattle.der_cursor.specs.Formats.{Never, ReadsField, Required};
 ghost use Rattle.der_extensions.specs.GeneralNames.{AttributeTypeAndValue as AttributeFormat, Name as NameFormat};
 ghost use Rattle.der_extensions.specs.GeneralNames.{RelativeDistinguishedName as RelativeFormat, attribute_of};
@@ -7,7 +7,7 @@ use crate::list::{Item, read_items, read_some};
 use der_base::error::BerError;
 use der_base::header::{Class, Tag};
 use der_cursor::{Cursor, Refusal};
-use der_x509::{AttributeTypeAndValue, Name, RelativeDistinguishedName};
+use x509::{AttributeTypeAndValue, Name, RelativeDistinguishedName};
 
 /// Reads a Name.
 pub(crate) fn read_name<'a>(fields: &mut Cursor<'a>) -> Result<Name<'a>, Refusal<BerError>>

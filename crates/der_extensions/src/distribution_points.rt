@@ -1,4 +1,4 @@
-//! Where lists of revoked certificates are found (RFC 5280 4.2.1.13).
+//! CRLDistributionPoints: where CRLs are published (RFC 5280 4.2.1.13).
 ghost use Rattle.std.specs.Prelude.{◌↔◌, IsTrue};
 ghost use Rattle.std.specs.Option.{option_map};
 ghost use Rattle.der_base.specs.declared.rules.Rules.{Rules};
@@ -11,7 +11,7 @@ ghost use Rattle.der_extensions.specs.Extensions.{point_name_of, point_of};
 ghost use Rattle.der_extensions.specs.GeneralNames.{Chosen, GeneralNames as NamesFormat};
 ghost use Rattle.der_extensions.specs.GeneralNames.{RelativeDistinguishedName as RelativeFormat};
 ghost use Rattle.der_extensions.specs.Lists.{list_octets};
-ghost use Rattle.der_x509.specs.Certificates.{bits_of};
+ghost use Rattle.x509.specs.Certificates.{bits_of};
 
 use crate::general_name::{GeneralName, GeneralNames};
 use crate::key_usage::ends_in_one;
@@ -20,32 +20,32 @@ use der_base::error::BerError;
 use der_base::header::{Class, Tag};
 use der_cursor::{Cursor, Refusal};
 use der_values::BitString;
-use der_x509::{AttributeTypeAndValue, RelativeDistinguishedName};
+use x509::{AttributeTypeAndValue, RelativeDistinguishedName};
 
-/// Places of lists, one at least.
+/// At least one distribution point.
 pub type CrlDistributionPoints<'a> = SequenceOf<'a, DistributionPoint<'a>>;
 
-/// A place of lists.
-#[derive(Debug, Drop)]
+/// A distribution point: where a CRL is published.
+#[derive(Drop)]
 pub struct DistributionPoint<'a> {
     pub distribution_point: Option<DistributionPointName<'a>>,
-    /// The reasons of revocation that the list has: a bit for each (RFC 5280 4.2.1.13), and all if it is
-    /// absent.
+    /// The reasons for revocation that the CRL covers, a bit for each (RFC 5280 4.2.1.13). If it is absent, the CRL
+    /// covers all.
     pub reasons: Option<BitString<'a>>,
-    /// Who issues the list, if that isn't the issuer of the certificate. One name at least.
+    /// The issuer of the CRL, if it isn't the issuer of the certificate. At least one name.
     pub crl_issuer: Option<GeneralNames<'a>>,
 }
 
-/// The name of a place.
-#[derive(Debug, Drop)]
+/// The name of a distribution point.
+#[derive(Drop)]
 pub enum DistributionPointName<'a> {
     FullName(GeneralNames<'a>),
-    /// What follows the name of the issuer.
+    /// The rest of the name, which follows the name of the CRL's issuer.
     NameRelativeToCrlIssuer(RelativeDistinguishedName<'a>),
 }
 
-/// Reads the value of a CRLDistributionPoints or a FreshestCRL (4.2.1.15) by DER: places, of which there is
-/// one at least. Octets left over are refused. A place with neither a name nor an issuer is read.
+/// Reads the value of a CRLDistributionPoints or a FreshestCRL (4.2.1.15) by DER: at least one distribution point.
+/// Trailing data is an error. A point with neither a name nor an issuer is allowed.
 pub fn read_crl_distribution_points(
     octets: &[u8],
 ) -> Result<CrlDistributionPoints<'_>, Refusal<BerError>>
@@ -145,7 +145,7 @@ fn read_relative_name<'a>(
     Ok(DistributionPointName::NameRelativeToCrlIssuer(name))
 }
 
-/// Reads ReasonFlags under an implicit tag of this number, if they are next. A last bit that is 0 is refused.
+/// Reads ReasonFlags under an implicit tag with this number, if they are next. A last bit of 0 is an error.
 pub(crate) fn read_reasons<'a>(
     fields: &mut Cursor<'a>,
     number: u32,

@@ -1,4 +1,4 @@
-//! What else a key is for (RFC 5280 4.2.1.12).
+//! ExtendedKeyUsage: further purposes of a key (RFC 5280 4.2.1.12).
 ghost use Rattle.der_base.specs.declared.rules.Rules.{Rules};
 ghost use Rattle.der_cursor.specs.Formats.{Never, ReadsInput, Required};
 ghost use Rattle.der_extensions.specs.Extensions.{ExtKeyUsageSyntax};
@@ -10,11 +10,10 @@ use der_base::header::{Class, Tag};
 use der_cursor::{Cursor, Refusal};
 use der_values::ObjectIdentifier;
 
-/// The purposes of a key, one at least.
+/// At least one purpose of a key.
 pub type ExtendedKeyUsage<'a> = SequenceOf<'a, ObjectIdentifier<'a>>;
 
-/// Reads the value of an ExtendedKeyUsage by DER: the identifiers of purposes, of which there is one at
-/// least. Octets left over are refused.
+/// Reads the value of an ExtendedKeyUsage by DER: the identifiers of at least one purpose. Trailing data is an error.
 pub fn read_extended_key_usage(octets: &[u8]) -> Result<ExtendedKeyUsage<'_>, Refusal<BerError>>
     ensures { ReadsInput Rules.Der ExtKeyUsageSyntax list_octets Never octets.now result }
 {

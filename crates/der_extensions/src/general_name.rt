@@ -1,4 +1,4 @@
-//! Names of nine kinds (RFC 5280 4.2.1.6).
+//! GeneralName: names of nine kinds (RFC 5280 4.2.1.6).
 ghost use Rattle.der_base.specs.declared.rules.Rules.{Rules};
 ghost use Rattle.der_cursor.specs.Formats.{AnyElement, Explicit, Implicit, Never, ObjectIdentifier as IdentifierFormat};
 ghost use Rattle.der_cursor.specs.Formats.{OctetString, Octets, ReadsField, ReadsInput, Required, Sequence, Text};
@@ -17,42 +17,41 @@ use der_base::error::BerError;
 use der_base::header::{Class, Tag};
 use der_cursor::{Cursor, Refusal};
 use der_values::ObjectIdentifier;
-use der_x509::Name;
+use x509::Name;
 
-/// Names, one at least.
+/// At least one name.
 pub type GeneralNames<'a> = SequenceOf<'a, GeneralName<'a>>;
 
-/// A name, by its kind. The characters of texts are those of IA5String (ASCII), and nothing else is
-/// asked of them.
-#[derive(Debug, Drop)]
+/// A name, by its kind. A text has the characters of IA5String (ASCII). Its syntax isn't checked.
+#[derive(Drop)]
 pub enum GeneralName<'a> {
-    /// A name of a kind that its identifier says.
+    /// A name whose kind is given by an object identifier.
     OtherName(OtherName<'a>),
     /// The address of a mailbox.
     Rfc822Name(&'a str),
     DnsName(&'a str),
-    /// The content octets of an ORAddress, which aren't looked into.
+    /// The content octets of an ORAddress. They aren't checked.
     X400Address(&'a [u8]),
     DirectoryName(Name<'a>),
-    /// The content octets of an EDIPartyName, which aren't looked into.
+    /// The content octets of an EDIPartyName. They aren't checked.
     EdiPartyName(&'a [u8]),
     UniformResourceIdentifier(&'a str),
-    /// The octets of an address: 4 of IPv4 and 16 of IPv6, and in name constraints as many again for the
-    /// mask. Their number isn't asked.
+    /// The octets of an address: 4 for IPv4 and 16 for IPv6. In name constraints the mask follows, with as many octets.
+    /// Their number isn't checked.
     IpAddress(&'a [u8]),
     RegisteredId(ObjectIdentifier<'a>),
 }
 
-/// A name of a kind that its identifier says.
-#[derive(Debug, Drop)]
+/// A name whose kind is given by an object identifier.
+#[derive(Drop)]
 pub struct OtherName<'a> {
     pub type_id: ObjectIdentifier<'a>,
-    /// Of a type that the identifier names. Its content isn't looked into.
+    /// A value whose type the identifier names. Its content isn't checked.
     pub value: Any<'a>,
 }
 
-/// Reads the value of a SubjectAltName or an IssuerAltName (4.2.1.7) by DER: its names, of which there is
-/// one at least. Octets left over are refused.
+/// Reads the value of a SubjectAltName or an IssuerAltName (4.2.1.7) by DER: at least one name. Trailing data is an
+/// error.
 pub fn read_general_names(octets: &[u8]) -> Result<GeneralNames<'_>, Refusal<BerError>>
     ensures { ReadsInput Rules.Der NamesFormat list_octets Never octets.now result }
 {
@@ -115,7 +114,7 @@ pub(crate) fn read_general_name<'a>(
     Err(refuse_other(names))
 }
 
-/// The error of a next element that is none of these.
+/// The error for an element with a tag of no alternative.
 pub(crate) fn refuse_other(names: &Cursor<'_>) -> Refusal<BerError> {
     let mut next = *names;
     match next.any() {
@@ -185,7 +184,7 @@ fn read_uniform_resource_identifier<'a>(
     Ok(GeneralName::UniformResourceIdentifier(text))
 }
 
-/// Reads an IA5String under an implicit tag of this number.
+/// Reads an IA5String under an implicit tag with this number.
 fn read_ia5_string<'a>(names: &mut Cursor<'a>, number: u32) -> Result<&'a str, Refusal<BerError>>
     ensures { ReadsField (Required (Implicit number (Text 22))) (λ x. x.now) Never names.old result names.new }
 {

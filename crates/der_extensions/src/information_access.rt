@@ -1,4 +1,5 @@
-//! Where more about an authority is found (RFC 5280 4.2.2.1, 4.2.2.2).
+//! AuthorityInfoAccess and SubjectInfoAccess: where there is more about an issuer or a subject (RFC 5280 4.2.2.1,
+//! 4.2.2.2).
 ghost use Rattle.der_base.specs.declared.rules.Rules.{Rules};
 ghost use Rattle.der_cursor.specs.Formats.{Never, ReadsField, ReadsInput, Required};
 ghost use Rattle.der_extensions.specs.Extensions.{AccessDescription as AccessFormat, AuthorityInfoAccessSyntax};
@@ -12,18 +13,18 @@ use der_base::header::{Class, Tag};
 use der_cursor::{Cursor, Refusal};
 use der_values::ObjectIdentifier;
 
-/// Descriptions of information, one at least.
+/// At least one description.
 pub type InformationAccess<'a> = SequenceOf<'a, AccessDescription<'a>>;
 
-/// Which information it is, and where.
-#[derive(Debug, Drop)]
+/// A kind of information, and where it is found.
+#[derive(Drop)]
 pub struct AccessDescription<'a> {
     pub access_method: ObjectIdentifier<'a>,
     pub access_location: GeneralName<'a>,
 }
 
-/// Reads the value of an AuthorityInformationAccess or a SubjectInformationAccess by DER: descriptions, of
-/// which there is one at least. Octets left over are refused.
+/// Reads the value of an AuthorityInfoAccess or a SubjectInfoAccess by DER: at least one description. Trailing data is
+/// an error.
 pub fn read_information_access(octets: &[u8]) -> Result<InformationAccess<'_>, Refusal<BerError>>
     ensures { ReadsInput Rules.Der AuthorityInfoAccessSyntax list_octets Never octets.now result }
 {

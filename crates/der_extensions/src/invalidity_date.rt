@@ -1,4 +1,4 @@
-//! Since when a key is known to be invalid (RFC 5280 5.3.2).
+//! InvalidityDate: the date since which a key is known to be invalid (RFC 5280 5.3.2).
 ghost use Rattle.der_base.specs.declared.rules.Rules.{Rules};
 ghost use Rattle.der_cursor.specs.Formats.{GeneralizedTime, Never, Only, ReadsInput, ReadsWhole, Required};
 
@@ -7,8 +7,8 @@ use der_base::header::{Class, Tag};
 use der_base::time::ASN1DateTime;
 use der_cursor::{Cursor, Refusal};
 
-/// Reads the value of an InvalidityDate by DER: a GeneralizedTime. Octets left over are refused. A fraction
-/// of a second is read.
+/// Reads the value of an InvalidityDate by DER: a GeneralizedTime. Trailing data is an error. The seconds may have a
+/// fraction.
 pub fn read_invalidity_date(octets: &[u8]) -> Result<ASN1DateTime, Refusal<BerError>>
     ensures { ReadsInput Rules.Der GeneralizedTime (λ x. x) Never octets.now result }
 {

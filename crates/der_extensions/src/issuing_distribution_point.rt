@@ -1,4 +1,4 @@
-//! Which certificates a list of revoked ones is about (RFC 5280 5.2.5).
+//! IssuingDistributionPoint: the certificates that a CRL covers (RFC 5280 5.2.5).
 ghost use Rattle.std.specs.Prelude.{false};
 ghost use Rattle.der_base.specs.declared.rules.Rules.{Rules};
 ghost use Rattle.der_cursor.specs.Formats.{Boolean, Default, Implicit, Never, Only, ReadsField, ReadsInput};
@@ -12,24 +12,24 @@ use der_cursor::{Cursor, Refusal};
 use der_values::BitString;
 
 /// The value of the extension IssuingDistributionPoint.
-#[derive(Debug, Drop)]
+#[derive(Drop)]
 pub struct IssuingDistributionPoint<'a> {
-    /// Where the list is found.
+    /// Where the CRL is published.
     pub distribution_point: Option<DistributionPointName<'a>>,
-    /// Whether the list has only certificates of end entities.
+    /// Whether the CRL has only end entity certificates.
     pub only_contains_user_certs: bool,
-    /// Whether it has only certificates of authorities.
+    /// Whether the CRL has only CA certificates.
     pub only_contains_ca_certs: bool,
-    /// The reasons of revocation that it has: a bit for each (4.2.1.13), and all if it is absent.
+    /// The reasons for revocation that the CRL covers, a bit for each (4.2.1.13). If it is absent, the CRL covers all.
     pub only_some_reasons: Option<BitString<'a>>,
-    /// Whether it has certificates of other issuers.
+    /// Whether the CRL has certificates of other issuers.
     pub indirect_crl: bool,
-    /// Whether it has only attribute certificates.
+    /// Whether the CRL has only attribute certificates.
     pub only_contains_attribute_certs: bool,
 }
 
-/// Reads the value of an IssuingDistributionPoint by DER. Octets left over are refused. A value without any
-/// field, or with two that exclude each other, is read.
+/// Reads the value of an IssuingDistributionPoint by DER. Trailing data is an error. A value without any field is
+/// allowed, and so is one with fields that exclude each other.
 pub fn read_issuing_distribution_point(
     octets: &[u8],
 ) -> Result<IssuingDistributionPoint<'_>, Refusal<BerError>>
@@ -71,7 +71,7 @@ fn read_point<'a>(input: &mut Cursor<'a>) -> Result<IssuingDistributionPoint<'a>
     })
 }
 
-/// Reads a BOOLEAN under an implicit tag of this number, which is false if it isn't next.
+/// Reads a BOOLEAN under an implicit tag with this number. It is false if that isn't next.
 fn read_flag(fields: &mut Cursor<'_>, number: u32) -> Result<bool, Refusal<BerError>>
     ensures { ReadsField (Default (Implicit number Boolean) false) (λ x. x) Never fields.old result fields.new }
 {

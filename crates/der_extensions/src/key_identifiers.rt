@@ -1,4 +1,5 @@
-//! Which key a certificate has, and which key signed it (RFC 5280 4.2.1.1, 4.2.1.2).
+//! SubjectKeyIdentifier and AuthorityKeyIdentifier: the key of a certificate, and the key that signed it (RFC 5280
+//! 4.2.1.1, 4.2.1.2).
 ghost use Rattle.std.specs.Option.{option_map};
 ghost use Rattle.der_base.specs.declared.rules.Rules.{Rules};
 ghost use Rattle.der_cursor.specs.Formats.{Implicit, Integer, Never, OctetString, Only, Optional};
@@ -14,16 +15,16 @@ use der_base::header::{Class, Tag};
 use der_cursor::{Cursor, Refusal};
 
 /// The value of the extension AuthorityKeyIdentifier.
-#[derive(Debug, Drop)]
+#[derive(Drop)]
 pub struct AuthorityKeyIdentifier<'a> {
     pub key_identifier: Option<&'a [u8]>,
-    /// The names of the issuer's issuer, one at least if there are any.
+    /// The names of the issuer of the issuer's certificate. At least one, if present.
     pub authority_cert_issuer: Option<GeneralNames<'a>>,
     /// The content octets of the serial number of the issuer's certificate, in two's complement.
     pub authority_cert_serial_number: Option<&'a [u8]>,
 }
 
-/// Reads the value of a SubjectKeyIdentifier by DER: its octets. Octets left over are refused.
+/// Reads the value of a SubjectKeyIdentifier by DER: its octets. Trailing data is an error.
 pub fn read_subject_key_identifier(octets: &[u8]) -> Result<&[u8], Refusal<BerError>>
     ensures { ReadsInput Rules.Der OctetString (λ x. x.now) Never octets.now result }
 {
@@ -47,7 +48,7 @@ fn read_whole_identifier(octets: &[u8]) -> Result<&[u8], Refusal<BerError>>
     Ok(identifier)
 }
 
-/// Reads the value of an AuthorityKeyIdentifier by DER. Octets left over are refused.
+/// Reads the value of an AuthorityKeyIdentifier by DER. Trailing data is an error.
 pub fn read_authority_key_identifier(
     octets: &[u8],
 ) -> Result<AuthorityKeyIdentifier<'_>, Refusal<BerError>>

@@ -1,9 +1,9 @@
-//! What a key is for (RFC 5280 4.2.1.3).
+//! KeyUsage: what a key may be used for (RFC 5280 4.2.1.3).
 ghost use Rattle.std.specs.Prelude.{◌≡◌, ◌↔◌, IsTrue};
 ghost use Rattle.der_base.specs.declared.rules.Rules.{Rules};
 ghost use Rattle.der_cursor.specs.Formats.{Never, Only, ReadsField, ReadsInput, ReadsWhole, Required};
 ghost use Rattle.der_values.specs.Kinds.{is_bit_set};
-ghost use Rattle.der_x509.specs.Certificates.{bits_of};
+ghost use Rattle.x509.specs.Certificates.{bits_of};
 ghost use Rattle.der_extensions.specs.Extensions.{KeyUsage as UsageFormat, EndsInOne, usage_of};
 
 use der_base::error::BerError;
@@ -12,22 +12,21 @@ use der_cursor::{Cursor, Refusal};
 use der_values::BitString;
 
 /// The value of the extension KeyUsage.
-#[derive(Clone, Copy, Debug, PartialEq)]
+#[derive(Clone, Copy, PartialEq)]
 pub struct KeyUsage<'a> {
     /// The named bits. A bit past the end isn't set.
     pub bits: BitString<'a>,
 }
 
 impl KeyUsage<'_> {
-    /// Whether the key verifies signatures other than those of certificates and of lists of revoked
-    /// certificates.
+    /// Whether the key may verify signatures other than those of certificates and CRLs.
     pub fn digital_signature(&self) -> bool
         ensures { result ≡ is_bit_set 0 self.now.bits.octets.now }
     {
         self.bits.is_set(0)
     }
 
-    /// Whether the key verifies signatures by which a signer is bound to what was signed. Its other name is
+    /// Whether the key may verify signatures that bind the signer to what is signed. This bit is also named
     /// nonRepudiation.
     pub fn content_commitment(&self) -> bool
         ensures { result ≡ is_bit_set 1 self.now.bits.octets.now }
@@ -35,49 +34,49 @@ impl KeyUsage<'_> {
         self.bits.is_set(1)
     }
 
-    /// Whether the key enciphers keys.
+    /// Whether the key may encipher keys.
     pub fn key_encipherment(&self) -> bool
         ensures { result ≡ is_bit_set 2 self.now.bits.octets.now }
     {
         self.bits.is_set(2)
     }
 
-    /// Whether the key enciphers data other than keys.
+    /// Whether the key may encipher data other than keys.
     pub fn data_encipherment(&self) -> bool
         ensures { result ≡ is_bit_set 3 self.now.bits.octets.now }
     {
         self.bits.is_set(3)
     }
 
-    /// Whether the key is for agreement on keys.
+    /// Whether the key may be used for key agreement.
     pub fn key_agreement(&self) -> bool
         ensures { result ≡ is_bit_set 4 self.now.bits.octets.now }
     {
         self.bits.is_set(4)
     }
 
-    /// Whether the key verifies signatures of certificates.
+    /// Whether the key may verify signatures of certificates.
     pub fn key_cert_sign(&self) -> bool
         ensures { result ≡ is_bit_set 5 self.now.bits.octets.now }
     {
         self.bits.is_set(5)
     }
 
-    /// Whether the key verifies signatures of lists of revoked certificates.
+    /// Whether the key may verify signatures of CRLs.
     pub fn crl_sign(&self) -> bool
         ensures { result ≡ is_bit_set 6 self.now.bits.octets.now }
     {
         self.bits.is_set(6)
     }
 
-    /// Whether agreement on keys may only encipher data.
+    /// Whether a key from key agreement may only encipher data.
     pub fn encipher_only(&self) -> bool
         ensures { result ≡ is_bit_set 7 self.now.bits.octets.now }
     {
         self.bits.is_set(7)
     }
 
-    /// Whether agreement on keys may only decipher data.
+    /// Whether a key from key agreement may only decipher data.
     pub fn decipher_only(&self) -> bool
         ensures { result ≡ is_bit_set 8 self.now.bits.octets.now }
     {
@@ -85,8 +84,8 @@ impl KeyUsage<'_> {
     }
 }
 
-/// Reads the value of a KeyUsage by DER. Octets left over are refused. The last bit is 1 (X.690 11.2.2): a
-/// value that ends in a bit 0, or has no bit, is refused.
+/// Reads the value of a KeyUsage by DER. Trailing data is an error. So is a value without bits, or with a last bit of 0
+/// (X.690 11.2.2).
 pub fn read_key_usage(octets: &[u8]) -> Result<KeyUsage<'_>, Refusal<BerError>>
     ensures { ReadsInput Rules.Der UsageFormat usage_of Never octets.now result }
 {
@@ -117,7 +116,7 @@ fn read_named_bits<'a>(input: &mut Cursor<'a>) -> Result<BitString<'a>, Refusal<
     Ok(bits)
 }
 
-/// Whether there is a last bit, and it is 1.
+/// Whether there is a last bit and it is 1.
 #[tactic(auto, using(std::proofs::lemmas::Nat::Bits::shr_and_one))]
 pub(crate) fn ends_in_one(bits: BitString<'_>) -> bool
     ensures { IsTrue result ↔ EndsInOne (bits_of bits.entry) }

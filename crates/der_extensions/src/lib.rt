@@ -1,6 +1,7 @@
-//! The values of the extensions of certificates, of lists of revoked ones and of their entries (RFC 5280 4.2,
-//! 5.2, 5.3), and of those of the web, read as their ASN.1 writes them, by DER. A reader is Incomplete exactly
-//! where the octets end within the element that they begin with.
+//! Readers of the values of extensions, by DER: those of certificates, CRLs and CRL entries (RFC 5280 4.2, 5.2, 5.3),
+//! and those of the web PKI.
+//!
+//! A reader is Incomplete iff the octets end within their first element.
 #![tactic(auto)]
 
 mod basic_constraints;
@@ -10,14 +11,13 @@ mod directory_attributes;
 mod directory_name;
 mod distribution_points;
 mod extended_key_usage;
-pub mod extension_identifiers;
 mod general_name;
 mod information_access;
 mod invalidity_date;
 mod issuing_distribution_point;
 mod key_identifiers;
 mod key_usage;
-mod kind;
+mod known;
 pub mod laws;
 mod list;
 mod name_constraints;
@@ -29,6 +29,7 @@ mod qc_statements;
 mod timestamps;
 mod tls_feature;
 mod unknown;
+mod user_notice;
 mod value;
 
 pub use basic_constraints::{BasicConstraints, read_basic_constraints};
@@ -51,9 +52,10 @@ pub use key_identifiers::{
     AuthorityKeyIdentifier, read_authority_key_identifier, read_subject_key_identifier,
 };
 pub use key_usage::{KeyUsage, read_key_usage};
+pub use known::{KNOWN_EXTENSIONS, KnownExtension, known_extension};
 pub use list::{FromRefusal, Item, Items, SequenceOf};
 pub use name_constraints::{GeneralSubtree, NameConstraints, read_name_constraints};
-pub use null::{read_ocsp_no_check, read_precertificate_poison};
+pub use null::read_null;
 pub use organization_identifier::{OrganizationIdentifier, read_organization_identifier};
 pub use policy_constraints::{PolicyConstraints, read_inhibit_any_policy, read_policy_constraints};
 pub use policy_mappings::{PolicyMapping, PolicyMappings, read_policy_mappings};
@@ -63,4 +65,5 @@ pub use timestamps::{
 };
 pub use tls_feature::{TlsFeature, TlsFeatures, read_tls_features};
 pub use unknown::has_unknown_critical;
+pub use user_notice::{NoticeReference, USER_NOTICE, UserNotice, read_user_notice};
 pub use value::{ExtensionValue, read_extension_value};

@@ -1,7 +1,7 @@
-//! Lists of values of one type (X.680 26, 28). They are kept as their octets, which were checked.
+//! Lists of values of one type (X.680 26, 28). They are kept as their checked octets.
 //!
-//! The error is a type parameter, which is `BerError`: a generic function whose signature names that
-//! isn't covered by the borrow checker's part.
+//! The error is a type parameter that is always `BerError`. The borrow checker's proof doesn't cover a generic function
+//! whose signature names `BerError`.
 ghost use Rattle.std.specs.Prelude.{◌≡◌, ◌<◌, ◌^◌, length};
 ghost use Rattle.std.specs.Iterator.{at_most};
 ghost use Rattle.std.specs.Option.{option_map};
@@ -15,29 +15,29 @@ use der_base::header::{Class, Tag};
 use der_cursor::{Cursor, Refusal};
 use std::marker::PhantomData;
 
-/// A value that lists hold, such as a `GeneralName`.
+/// A value that a list contains, such as a `GeneralName`.
 pub trait Item<'a, E>: Drop {
     ghost use Rattle.der_cursor.specs.Formats.{Field, Never, ReadsField};
     ghost use Rattle.der_extensions.specs.Lists.{TakesOctets};
 
-    // The values of its type of ASN.1, that type, and the value that this one stands for.
+    // Its type in ASN.1, the values of that type, and the value that this one stands for.
     ghost Value: { Type 0 };
 
     ghost field: { Field Value };
 
     ghost view: { Self → Value };
 
-    /// Reads the value that is next.
+    /// Reads the next value.
     fn read(list: &mut Cursor<'a>) -> Result<Self, Refusal<E>>
         ensures { ReadsField field view Never list.old result list.new };
 
-    // It has an octet at least, so a list ends.
+    // A value has at least one octet, so a list ends.
     ghost takes: { TakesOctets field };
 }
 
-/// An error that a cursor's error is made one of.
+/// An error that can be made from the error of a cursor.
 pub trait FromRefusal: Drop {
-    /// The error of a cursor.
+    /// Makes this error from the error of a cursor.
     fn from_refusal(refusal: Refusal<BerError>) -> Refusal<Self>;
 }
 
@@ -47,22 +47,22 @@ impl FromRefusal for BerError {
     }
 }
 
-/// A list, as the encodings of its values, one after another, which were checked.
-#[derive(Debug, Drop)]
+/// A list, as the encodings of its values, one after another. They were checked.
+#[derive(Drop)]
 pub struct SequenceOf<'a, T> {
     pub octets: &'a [u8],
     kind: PhantomData<T>,
 }
 
-/// The values of a list, in order. It ends where the octets that are left begin with none.
-#[derive(Debug, Drop)]
+/// An iterator over the values of a list, in order. It ends when no value is next.
+#[derive(Drop)]
 pub struct Items<'a, T> {
     left: &'a [u8],
     kind: PhantomData<T>,
 }
 
 impl<'a, T: Item<'a, BerError>> SequenceOf<'a, T> {
-    /// The values.
+    /// An iterator over the values.
     pub fn iter(&self) -> Items<'a, T>
         ensures octets { items_left result ≡ self.now.octets.now }
         ensures few { length (items_left result) < 2 ^ 64 }
@@ -93,7 +93,7 @@ impl<'a, T: Item<'a, BerError>> Iterator for Items<'a, T> {
     }
 }
 
-/// Reads a list of any number of values, which is an element of this class and tag number: its octets.
+/// Reads an element with this class and tag number that contains any number of values. Returns its content octets.
 pub(crate) fn read_items<'a, T: Item<'a, E>, E: FromRefusal>(
     fields: &mut Cursor<'a>,
     class: Class,
@@ -113,7 +113,7 @@ pub(crate) fn read_items<'a, T: Item<'a, E>, E: FromRefusal>(
     Ok(list.remaining())
 }
 
-/// The same of one value at least.
+/// Reads an element with this class and tag number that contains at least one value.
 pub(crate) fn read_some<'a, T: Item<'a, E>, E: FromRefusal>(
     fields: &mut Cursor<'a>,
     class: Class,
@@ -133,7 +133,7 @@ pub(crate) fn read_some<'a, T: Item<'a, E>, E: FromRefusal>(
     })
 }
 
-/// The same, if an element of this class and tag number is next.
+/// Reads an element with this class and tag number that contains at least one value, if it is next.
 pub(crate) fn read_optional<'a, T: Item<'a, E>, E: FromRefusal>(
     fields: &mut Cursor<'a>,
     class: Class,
@@ -149,7 +149,7 @@ pub(crate) fn read_optional<'a, T: Item<'a, E>, E: FromRefusal>(
     Ok(Some(list))
 }
 
-/// Reads an input that is a SEQUENCE SIZE (1..MAX) OF values by DER.
+/// Reads a SEQUENCE SIZE (1..MAX) OF values by DER. Trailing data is an error.
 pub(crate) fn read_list<'a, T: Item<'a, E>, E: FromRefusal>(
     octets: &'a [u8],
 ) -> Result<SequenceOf<'a, T>, Refusal<E>>
@@ -163,7 +163,7 @@ pub(crate) fn read_list<'a, T: Item<'a, E>, E: FromRefusal>(
     }
 }
 
-/// The same of a SEQUENCE OF values, of which there may be none.
+/// Reads a SEQUENCE OF values by DER, which may be empty. Trailing data is an error.
 pub(crate) fn read_list_of_any<'a, T: Item<'a, E>, E: FromRefusal>(
     octets: &'a [u8],
 ) -> Result<SequenceOf<'a, T>, Refusal<E>>

@@ -1,4 +1,4 @@
-//! Which names may be in certificates after this one in a path (RFC 5280 4.2.1.10).
+//! NameConstraints: the names that certificates after this one in a path may have (RFC 5280 4.2.1.10).
 ghost use Rattle.std.specs.Prelude.{◌<◌, pos};
 ghost use Rattle.std.specs.Option.{option_map};
 ghost use Rattle.der_base.specs.declared.rules.Rules.{Rules};
@@ -16,27 +16,25 @@ use der_base::header::{Class, Tag};
 use der_cursor::{Cursor, Refusal};
 
 /// The value of the extension NameConstraints.
-#[derive(Debug, Drop)]
+#[derive(Drop)]
 pub struct NameConstraints<'a> {
-    /// Where names have to be, one subtree at least if there are any.
+    /// The subtrees that names have to be in. At least one, if present.
     pub permitted_subtrees: Option<SequenceOf<'a, GeneralSubtree<'a>>>,
-    /// Where names may not be, one subtree at least if there are any.
+    /// The subtrees that names must not be in. At least one, if present.
     pub excluded_subtrees: Option<SequenceOf<'a, GeneralSubtree<'a>>>,
 }
 
-/// The names below one.
-#[derive(Debug, Drop)]
+/// A subtree: the names below a base.
+#[derive(Drop)]
 pub struct GeneralSubtree<'a> {
     pub base: GeneralName<'a>,
-    /// The distance from the base of the first names: 0 in each certificate by RFC 5280, which isn't
-    /// asked.
+    /// The least distance of a name from the base. RFC 5280 has 0 in every certificate; this isn't checked.
     pub minimum: u32,
-    /// That of the last names. None in each certificate by RFC 5280, which isn't asked.
+    /// The greatest distance of a name from the base. RFC 5280 has None in every certificate; this isn't checked.
     pub maximum: Option<u32>,
 }
 
-/// Reads the value of a NameConstraints by DER. Octets left over are refused, and so is a distance above
-/// 2^32-1.
+/// Reads the value of a NameConstraints by DER. Trailing data is an error, and so is a distance above 2^32-1.
 pub fn read_name_constraints(octets: &[u8]) -> Result<NameConstraints<'_>, Refusal<BerError>>
     ensures { ReadsInput Rules.Der ConstraintsFormat name_constraints_of Never octets.now result }
 {
@@ -68,7 +66,7 @@ fn read_constraints<'a>(input: &mut Cursor<'a>) -> Result<NameConstraints<'a>, R
     })
 }
 
-/// Reads GeneralSubtrees under an implicit tag of this number, if they are next.
+/// Reads GeneralSubtrees under an implicit tag with this number, if they are next.
 fn read_subtrees<'a>(
     fields: &mut Cursor<'a>,
     number: u32,

@@ -6,23 +6,9 @@ use der_base::error::BerError;
 use der_base::header::{Class, Tag};
 use der_cursor::{Cursor, Refusal};
 
-/// Reads the value of an OCSP no-check by DER (RFC 6960 4.2.2.2.1): a NULL. The status of a certificate
-/// with it isn't asked for. Octets left over are refused.
-pub fn read_ocsp_no_check(octets: &[u8]) -> Result<(), Refusal<BerError>>
-    ensures { ReadsInput Rules.Der Null (λ x. x) Never octets.now result }
-{
-    read_null(octets)
-}
-
-/// Reads the value of a poison by DER (RFC 6962 3.1): a NULL. A certificate with it isn't to be accepted.
-/// Octets left over are refused.
-pub fn read_precertificate_poison(octets: &[u8]) -> Result<(), Refusal<BerError>>
-    ensures { ReadsInput Rules.Der Null (λ x. x) Never octets.now result }
-{
-    read_null(octets)
-}
-
-fn read_null(octets: &[u8]) -> Result<(), Refusal<BerError>>
+/// Reads by DER the value of an extension that says all by being there, a NULL: OCSP no-check (RFC 6960 4.2.2.2.1), the
+/// poison of a precertificate (RFC 6962 3.1), noRevAvail (RFC 9608 2). Trailing data is an error.
+pub fn read_null(octets: &[u8]) -> Result<(), Refusal<BerError>>
     ensures { ReadsInput Rules.Der Null (λ x. x) Never octets.now result }
 {
     match read_whole_null(octets) {

@@ -1,4 +1,4 @@
-//! In which register an organization is (CA/B Forum, EV Guidelines 9.8.2).
+//! CabfOrganizationIdentifier: an organization in a register (CA/B Forum, EV Guidelines 9.8.2).
 ghost use Rattle.std.specs.Option.{option_map};
 ghost use Rattle.der_base.specs.declared.rules.Rules.{Rules};
 ghost use Rattle.der_cursor.specs.Formats.{Implicit, Never, Only, Optional, ReadsField, ReadsInput, ReadsWhole};
@@ -11,24 +11,24 @@ use der_base::error::BerError;
 use der_base::header::{Class, Tag};
 use der_cursor::{Cursor, Refusal};
 
-/// The greatest number of characters of a state or province.
+/// The most characters of a state or province.
 const LONGEST_STATE: usize = 128;
 
 /// The value of the extension cabfOrganizationIdentifier.
-#[derive(Debug, Drop)]
+#[derive(Drop)]
 pub struct OrganizationIdentifier<'a> {
-    /// The kind of the register, as VAT: three characters.
+    /// The kind of the register, such as VAT. Three characters.
     pub registration_scheme_identifier: &'a str,
-    /// Its country, two characters.
+    /// The country of the register. Two characters.
     pub registration_country: &'a str,
-    /// Its state or province, at most 128 characters.
+    /// The state or province of the register. At most 128 characters.
     pub registration_state_or_province: Option<&'a str>,
-    /// The number of the organization in it.
+    /// The number of the organization in the register.
     pub registration_reference: &'a str,
 }
 
-/// Reads the value of a cabfOrganizationIdentifier by DER. Octets left over are refused. Which characters a
-/// country or a register has isn't asked.
+/// Reads the value of a cabfOrganizationIdentifier by DER. Trailing data is an error. Neither the country nor the kind
+/// of the register is checked.
 pub fn read_organization_identifier(
     octets: &[u8],
 ) -> Result<OrganizationIdentifier<'_>, Refusal<BerError>>
@@ -69,7 +69,7 @@ fn read_identifier<'a>(
     })
 }
 
-/// Reads a PrintableString of so many characters.
+/// Reads a PrintableString with this number of characters.
 fn read_text_of<'a>(fields: &mut Cursor<'a>, count: usize) -> Result<&'a str, Refusal<BerError>>
     ensures { ReadsField (Required (TextOf count)) (λ x. x.now) Never fields.old result fields.new }
 {

@@ -1,4 +1,5 @@
-//! From where on in a path policies are asked for, mapped, or any policy counts (RFC 5280 4.2.1.11, 4.2.1.14).
+//! PolicyConstraints and InhibitAnyPolicy: from where on in a path there are stricter rules for policies (RFC 5280
+//! 4.2.1.11, 4.2.1.14).
 ghost use Rattle.std.specs.Prelude.{pos};
 ghost use Rattle.std.specs.Option.{option_map};
 ghost use Rattle.der_base.specs.declared.rules.Rules.{Rules};
@@ -11,18 +12,18 @@ use der_base::error::BerError;
 use der_base::header::{Class, Tag};
 use der_cursor::{Cursor, Refusal};
 
-/// The value of the extension PolicyConstraints. Each field is how many certificates may follow this one in
-/// a path before the constraint holds.
-#[derive(Clone, Copy, Debug, PartialEq)]
+/// The value of the extension PolicyConstraints. Each field is the number of certificates that may follow this one in a
+/// path before its rule applies.
+#[derive(Clone, Copy, PartialEq)]
 pub struct PolicyConstraints {
-    /// Before each certificate needs an acceptable policy.
+    /// The rule: every certificate needs an acceptable policy.
     pub require_explicit_policy: Option<u32>,
-    /// Before policies are no longer mapped.
+    /// The rule: policies aren't mapped any more.
     pub inhibit_policy_mapping: Option<u32>,
 }
 
-/// Reads the value of a PolicyConstraints by DER. Octets left over are refused, and so is a number above
-/// 2^32-1. A value with neither field is read.
+/// Reads the value of a PolicyConstraints by DER. Trailing data is an error, and so is a number above 2^32-1. A value
+/// with neither field is allowed.
 pub fn read_policy_constraints(octets: &[u8]) -> Result<PolicyConstraints, Refusal<BerError>>
     ensures { ReadsInput Rules.Der ConstraintsFormat policy_constraints_of Never octets.now result }
 {
@@ -54,7 +55,7 @@ fn read_constraints(input: &mut Cursor<'_>) -> Result<PolicyConstraints, Refusal
     })
 }
 
-/// Reads a SkipCerts under an implicit tag of this number, if it is next.
+/// Reads a SkipCerts under an implicit tag with this number, if it is next.
 fn read_number(fields: &mut Cursor<'_>, number: u32) -> Result<Option<u32>, Refusal<BerError>>
     ensures { ReadsField (Optional (Implicit number SkipCerts)) (λ x. option_map pos x) Never
         fields.old result fields.new }
@@ -62,8 +63,8 @@ fn read_number(fields: &mut Cursor<'_>, number: u32) -> Result<Option<u32>, Refu
     fields.implicit(number).optional_u32()
 }
 
-/// Reads the value of an InhibitAnyPolicy by DER: how many certificates may follow this one in a path
-/// before anyPolicy no longer counts. Octets left over are refused, and so is a number above 2^32-1.
+/// Reads the value of an InhibitAnyPolicy by DER: how many certificates may follow this one in a path before anyPolicy
+/// no longer counts. Trailing data is an error, and so is a number above 2^32-1.
 pub fn read_inhibit_any_policy(octets: &[u8]) -> Result<u32, Refusal<BerError>>
     ensures { ReadsInput Rules.Der SkipCerts pos Never octets.now result }
 {

@@ -1,4 +1,4 @@
-//! Which policies of other authorities stand for one's own (RFC 5280 4.2.1.5).
+//! PolicyMappings: policies that an issuer takes to be the same (RFC 5280 4.2.1.5).
 ghost use Rattle.der_base.specs.declared.rules.Rules.{Rules};
 ghost use Rattle.der_cursor.specs.Formats.{Never, ReadsField, ReadsInput, Required};
 ghost use Rattle.der_extensions.specs.Lists.{list_octets};
@@ -11,18 +11,18 @@ use der_base::header::{Class, Tag};
 use der_cursor::{Cursor, Refusal};
 use der_values::ObjectIdentifier;
 
-/// Pairs of policies, one at least.
+/// At least one pair of policies.
 pub type PolicyMappings<'a> = SequenceOf<'a, PolicyMapping<'a>>;
 
-/// A policy of the issuer, and the one of the subject that is equivalent to it.
-#[derive(Debug, Drop)]
+/// A policy of the issuer, and the policy of the subject that is equivalent to it.
+#[derive(Drop)]
 pub struct PolicyMapping<'a> {
     pub issuer_domain_policy: ObjectIdentifier<'a>,
     pub subject_domain_policy: ObjectIdentifier<'a>,
 }
 
-/// Reads the value of a PolicyMappings by DER: pairs of policies, of which there is one at least. Octets
-/// left over are refused. A pair with anyPolicy is read.
+/// Reads the value of a PolicyMappings by DER: at least one pair of policies. Trailing data is an error. A pair with
+/// anyPolicy is allowed.
 pub fn read_policy_mappings(octets: &[u8]) -> Result<PolicyMappings<'_>, Refusal<BerError>>
     ensures { ReadsInput Rules.Der MappingsFormat list_octets Never octets.now result }
 {

@@ -1,4 +1,4 @@
-//! What is stated of a qualified certificate (RFC 3739 3.2.6).
+//! QCStatements: statements about a qualified certificate (RFC 3739 3.2.6).
 ghost use Rattle.std.specs.Option.{option_map};
 ghost use Rattle.der_base.specs.declared.rules.Rules.{Rules};
 ghost use Rattle.der_cursor.specs.Formats.{AnyElement, IfLeft, Never, ReadsField, ReadsInput, Required, element_of};
@@ -13,18 +13,18 @@ use der_base::header::{Class, Tag};
 use der_cursor::{Cursor, Refusal};
 use der_values::ObjectIdentifier;
 
-/// Statements, of which there may be none.
+/// Any number of statements.
 pub type QcStatements<'a> = SequenceOf<'a, QcStatement<'a>>;
 
 /// A statement.
-#[derive(Debug, Drop)]
+#[derive(Drop)]
 pub struct QcStatement<'a> {
     pub statement_id: ObjectIdentifier<'a>,
-    /// Of a type that the identifier names. Its content isn't looked into.
+    /// A value whose type the identifier names. Its content isn't checked.
     pub statement_info: Option<Any<'a>>,
 }
 
-/// Reads the value of a qcStatements by DER: statements. Octets left over are refused.
+/// Reads the value of a qcStatements by DER: any number of statements. Trailing data is an error.
 pub fn read_qc_statements(octets: &[u8]) -> Result<QcStatements<'_>, Refusal<BerError>>
     ensures { ReadsInput Rules.Der StatementsFormat list_octets Never octets.now result }
 {

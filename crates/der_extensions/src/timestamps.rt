@@ -1,4 +1,4 @@
-//! Promises of logs to show a certificate (RFC 6962 3.3).
+//! Signed certificate timestamps: a log's promise to publish a certificate (RFC 6962 3.3).
 ghost use Rattle.std.specs.Prelude.{◌≡◌, ◌<◌, ◌^◌, ◌↔◌, IsTrue, MatchOption, [], length};
 ghost use Rattle.std.specs.Iterator.{at_most};
 ghost use Rattle.der_base.specs.declared.rules.Rules.{Rules};
@@ -11,21 +11,21 @@ use der_base::error::BerError;
 use der_base::header::{Class, Tag};
 use der_cursor::{Cursor, Refusal};
 
-/// Timestamps that logs signed, one at least. They are kept as their octets, which were checked.
-#[derive(Clone, Copy, Debug)]
+/// At least one timestamp with the signature of a log. They are kept as their checked octets.
+#[derive(Clone, Copy)]
 pub struct SignedCertificateTimestamps<'a> {
-    /// The timestamps, each behind its number of octets.
+    /// The timestamps, each after its number of octets.
     pub octets: &'a [u8],
 }
 
-/// The octets of each timestamp, in order (RFC 6962 3.2). It ends where the octets that are left begin with none.
-#[derive(Clone, Copy, Debug)]
+/// An iterator over the octets of each timestamp, in order (RFC 6962 3.2). It ends when no timestamp is next.
+#[derive(Clone, Copy)]
 pub struct TimestampIter<'a> {
     left: &'a [u8],
 }
 
 impl<'a> SignedCertificateTimestamps<'a> {
-    /// The octets of each timestamp.
+    /// An iterator over the octets of each timestamp.
     pub fn iter(&self) -> TimestampIter<'a>
         ensures octets { timestamps_left result ≡ self.now.octets.now }
         ensures few { length (timestamps_left result) < 2 ^ 64 }
@@ -50,8 +50,8 @@ impl<'a> Iterator for TimestampIter<'a> {
     }
 }
 
-/// Reads the value of an SCT list by DER: an OCTET STRING with timestamps, of which there is one at least.
-/// Octets left over are refused. What a timestamp says isn't looked into.
+/// Reads the value of an SCT list by DER: an OCTET STRING with at least one timestamp. Trailing data is an error. The
+/// content of a timestamp isn't checked.
 pub fn read_signed_certificate_timestamps(
     octets: &[u8],
 ) -> Result<SignedCertificateTimestamps<'_>, Refusal<BerError>>
@@ -101,7 +101,7 @@ fn read_content<'a>(
     Ok(SignedCertificateTimestamps { octets })
 }
 
-/// The octets behind the number of them. None if that is wrong, or octets follow.
+/// The octets after their number. None if the number is wrong or more octets follow.
 fn only_vector(octets: &[u8]) -> Option<&[u8]>
     ensures { MatchOption result ((v : _) → ¬ Vector Rules.Der octets.now v [])
         (λ x. BeginsWith Vector octets.now x.now []) }
@@ -115,7 +115,7 @@ fn only_vector(octets: &[u8]) -> Option<&[u8]>
     Some(vector)
 }
 
-/// Whether the octets are timestamps, each behind its number of octets.
+/// Whether the octets are timestamps, each after its number of octets.
 fn are_vectors(octets: &[u8]) -> bool
     ensures { IsTrue result ↔ IsListOf Vector Rules.Der octets.now }
 {
@@ -129,7 +129,7 @@ fn are_vectors(octets: &[u8]) -> bool
     true
 }
 
-/// The octets of the first timestamp, and what follows it. None if the octets don't begin with one.
+/// The octets of the first timestamp, and what follows it. None if the octets don't begin with a timestamp.
 fn split_vector(octets: &[u8]) -> Option<(&[u8], &[u8])>
     ensures { MatchOption result (BeginsWithNone Vector octets.now)
         (λ x. BeginsWith Vector octets.now x.0.now x.1.now) }

@@ -1,4 +1,4 @@
-//! What a server with this certificate speaks (RFC 7633).
+//! TLS feature: the extensions of TLS that a server with this certificate has to support (RFC 7633).
 ghost use Rattle.der_base.specs.declared.rules.Rules.{Rules};
 ghost use Rattle.der_cursor.specs.Formats.{Never, ReadsField, ReadsInput, Required};
 ghost use Rattle.der_extensions.specs.Lists.{list_octets};
@@ -9,17 +9,17 @@ use der_base::error::BerError;
 use der_base::header::{Class, Tag};
 use der_cursor::{Cursor, Refusal};
 
-/// Features, of which there may be none.
+/// Any number of features.
 pub type TlsFeatures<'a> = SequenceOf<'a, TlsFeature>;
 
-/// An extension of TLS that the server has to speak, as status_request, which is 5.
-#[derive(Clone, Copy, Debug, PartialEq)]
+/// An extension of TLS that the server has to support, such as 5, status_request.
+#[derive(Clone, Copy, PartialEq)]
 pub struct TlsFeature {
-    /// Its number, which TLS has in 16 bits. That isn't asked.
+    /// The number of the extension. TLS has 16 bits for it; this isn't checked.
     pub number: u32,
 }
 
-/// Reads the value of a TLS feature by DER (RFC 7633 4.1): numbers. Octets left over are refused, and so is
+/// Reads the value of a TLS feature by DER (RFC 7633 4.1): any number of numbers. Trailing data is an error, and so is
 /// a number that is negative or above 2^32-1.
 pub fn read_tls_features(octets: &[u8]) -> Result<TlsFeatures<'_>, Refusal<BerError>>
     ensures { ReadsInput Rules.Der Features list_octets Never octets.now result }

@@ -1,15 +1,13 @@
 //! Critical extensions that nothing here reads (RFC 5280 4.2).
 ghost use Rattle.std.specs.Prelude.{◌↔◌, IsTrue};
-ghost use Rattle.der_values.specs.Kinds.{borrowed_arcs};
-ghost use Rattle.der_extensions.specs.Kinds.{IsNoneOf, every_kind};
-ghost use Rattle.der_extensions.specs.Unknown.{HasUnknownCritical, IsUnknownCriticalOne};
+ghost use Rattle.x509.specs.Certificates.{extension_of};
+ghost use Rattle.der_extensions.specs.Unknown.{HasUnknownCritical, IsUnknown, IsUnknownCritical};
 
-use crate::kind::kind_of;
-use der_values::ObjectIdentifier;
-use der_x509::{Extension, Extensions};
+use crate::known::known_extension;
+use x509::{Extension, Extensions, absolute_octets};
 
-/// Whether a critical extension is of none of the kinds that `ExtensionValue` has. Who knows no other
-/// extensions has to refuse a certificate, a list of revoked certificates or an entry of one that has such.
+/// Whether a critical extension is none of `KnownExtension`. A caller that knows no other extensions must reject a
+/// certificate, a CRL or an entry of a CRL that has one.
 pub fn has_unknown_critical(extensions: Extensions<'_>) -> bool
     ensures { IsTrue result ↔ HasUnknownCritical extensions.entry.octets.now }
 {
@@ -21,15 +19,16 @@ pub fn has_unknown_critical(extensions: Extensions<'_>) -> bool
     false
 }
 
-/// Whether the extension is critical, and of none of the kinds.
+/// Whether the extension is critical and unknown.
 fn is_unknown_critical(extension: &Extension<'_>) -> bool
-    ensures { IsTrue result ↔ IsUnknownCriticalOne extension.now }
+    ensures { IsTrue result ↔ IsUnknownCritical (extension_of extension.now) }
 {
-    extension.critical && is_unknown(&extension.identifier)
+    extension.critical && is_unknown(absolute_octets(&extension.identifier))
 }
 
-fn is_unknown(identifier: &ObjectIdentifier<'_>) -> bool
-    ensures { IsTrue result ↔ IsNoneOf every_kind (borrowed_arcs identifier.now) }
+/// Whether no known extension has this identifier, given its content octets.
+fn is_unknown(identifier: &[u8]) -> bool
+    ensures { IsTrue result ↔ IsUnknown identifier.now }
 {
-    kind_of(identifier).is_other()
+    known_extension(identifier).is_none()
 }

@@ -19,9 +19,9 @@ use crate::key_identifiers::{
     AuthorityKeyIdentifier, read_authority_key_identifier, read_subject_key_identifier,
 };
 use crate::key_usage::{KeyUsage, read_key_usage};
-use crate::kind::{Kind, kind_of};
+use crate::known::{KnownExtension as Known, known_extension};
 use crate::name_constraints::{NameConstraints, read_name_constraints};
-use crate::null::{read_ocsp_no_check, read_precertificate_poison};
+use crate::null::read_null;
 use crate::organization_identifier::{OrganizationIdentifier, read_organization_identifier};
 use crate::policy_constraints::{
     PolicyConstraints, read_inhibit_any_policy, read_policy_constraints,
@@ -36,10 +36,10 @@ use crate::value::ExtensionValue as Value;
 use der_base::error::BerError;
 use der_base::time::ASN1DateTime;
 use der_cursor::Refusal;
-use der_x509::Extension;
+use x509::{Extension, absolute_octets};
 
 /// What an extension says.
-#[derive(Debug, Drop)]
+#[derive(Drop)]
 pub enum ExtensionValue<'a> {
     /// Which key signed the certificate or the list of revoked ones (4.2.1.1, 5.2.1).
     AuthorityKeyIdentifier(AuthorityKeyIdentifier<'a>),
@@ -81,7 +81,7 @@ pub enum ExtensionValue<'a> {
     DeltaCrlIndicator(&'a [u8]),
     /// Which certificates the list is about (5.2.5).
     IssuingDistributionPoint(IssuingDistributionPoint<'a>),
-    /// Why a certificate is revoked (5.3.1). `read_reason` of `crl_reader` reads the value.
+    /// Why a certificate is revoked (5.3.1). `read_reason` of `x509::crl` reads the value.
     ReasonCode,
     /// Since when the key is known to be invalid (5.3.2).
     InvalidityDate(ASN1DateTime),
@@ -99,6 +99,8 @@ pub enum ExtensionValue<'a> {
     QcStatements(QcStatements<'a>),
     /// In which register the organization is (CA/B Forum, EV Guidelines 9.8.2).
     OrganizationIdentifier(OrganizationIdentifier<'a>),
+    /// No information about revocation is given (RFC 9608 2).
+    NoRevAvail,
     /// Another extension, whose value isn't read.
     Other,
 }
@@ -118,50 +120,56 @@ pub fn read_extension_value<'a>(
 ) -> Result<ExtensionValue<'a>, Refusal<BerError>>
     ensures { ReadsExtension extension.now result }
 {
-    read_as(kind_of(&extension.identifier), extension.value)
+    match known_extension(absolute_octets(&extension.identifier)) {
+        Some(known) => read_as(known, extension.value),
+        None => Ok(Value::Other),
+    }
 }
 
-/// Reads the value of an extension of this kind.
+/// Reads the value of this extension.
 #[rattlefmt::skip]
-fn read_as(kind: Kind, value: &[u8]) -> Result<ExtensionValue<'_>, Refusal<BerError>>
-    ensures { ReadsAs value.now result kind }
+fn read_as(known: Known, value: &[u8]) -> Result<ExtensionValue<'_>, Refusal<BerError>>
+    ensures { ReadsAs value.now result known }
 {
-    match kind {
-        Kind::AuthorityKeyIdentifier => Ok(Value::AuthorityKeyIdentifier(read_authority_key_identifier(value)?)),
-        Kind::SubjectKeyIdentifier => Ok(Value::SubjectKeyIdentifier(read_subject_key_identifier(value)?)),
-        Kind::KeyUsage => Ok(Value::KeyUsage(read_key_usage(value)?)),
-        Kind::CertificatePolicies => Ok(Value::CertificatePolicies(read_certificate_policies(value)?)),
-        Kind::SubjectAltName => Ok(Value::SubjectAltName(read_general_names(value)?)),
-        Kind::IssuerAltName => Ok(Value::IssuerAltName(read_general_names(value)?)),
-        Kind::BasicConstraints => Ok(Value::BasicConstraints(read_basic_constraints(value)?)),
-        Kind::NameConstraints => Ok(Value::NameConstraints(read_name_constraints(value)?)),
-        Kind::ExtendedKeyUsage => Ok(Value::ExtendedKeyUsage(read_extended_key_usage(value)?)),
-        Kind::CrlDistributionPoints => Ok(Value::CrlDistributionPoints(read_crl_distribution_points(value)?)),
-        Kind::FreshestCrl => Ok(Value::FreshestCrl(read_crl_distribution_points(value)?)),
-        Kind::AuthorityInfoAccess => Ok(Value::AuthorityInfoAccess(read_information_access(value)?)),
-        Kind::SubjectInfoAccess => Ok(Value::SubjectInfoAccess(read_information_access(value)?)),
-        Kind::PolicyMappings => Ok(Value::PolicyMappings(read_policy_mappings(value)?)),
-        Kind::SubjectDirectoryAttributes => Ok(Value::SubjectDirectoryAttributes(read_attributes(value)?)),
-        Kind::PolicyConstraints => Ok(Value::PolicyConstraints(read_policy_constraints(value)?)),
-        Kind::InhibitAnyPolicy => Ok(Value::InhibitAnyPolicy(read_inhibit_any_policy(value)?)),
-        Kind::CrlNumber => Ok(Value::CrlNumber(read_crl_number(value)?)),
-        Kind::DeltaCrlIndicator => Ok(Value::DeltaCrlIndicator(read_crl_number(value)?)),
-        Kind::IssuingDistributionPoint => Ok(Value::IssuingDistributionPoint(read_issuing_distribution_point(value)?)),
-        Kind::ReasonCode => Ok(Value::ReasonCode),
-        Kind::InvalidityDate => Ok(Value::InvalidityDate(read_invalidity_date(value)?)),
-        Kind::CertificateIssuer => Ok(Value::CertificateIssuer(read_general_names(value)?)),
-        Kind::SignedCertificateTimestamps => Ok(Value::SignedCertificateTimestamps(read_timestamps(value)?)),
-        Kind::PrecertificatePoison => {
-            read_precertificate_poison(value)?;
+    match known {
+        Known::AuthorityKeyIdentifier => Ok(Value::AuthorityKeyIdentifier(read_authority_key_identifier(value)?)),
+        Known::SubjectKeyIdentifier => Ok(Value::SubjectKeyIdentifier(read_subject_key_identifier(value)?)),
+        Known::KeyUsage => Ok(Value::KeyUsage(read_key_usage(value)?)),
+        Known::CertificatePolicies => Ok(Value::CertificatePolicies(read_certificate_policies(value)?)),
+        Known::SubjectAltName => Ok(Value::SubjectAltName(read_general_names(value)?)),
+        Known::IssuerAltName => Ok(Value::IssuerAltName(read_general_names(value)?)),
+        Known::BasicConstraints => Ok(Value::BasicConstraints(read_basic_constraints(value)?)),
+        Known::NameConstraints => Ok(Value::NameConstraints(read_name_constraints(value)?)),
+        Known::ExtendedKeyUsage => Ok(Value::ExtendedKeyUsage(read_extended_key_usage(value)?)),
+        Known::CrlDistributionPoints => Ok(Value::CrlDistributionPoints(read_crl_distribution_points(value)?)),
+        Known::FreshestCrl => Ok(Value::FreshestCrl(read_crl_distribution_points(value)?)),
+        Known::AuthorityInfoAccess => Ok(Value::AuthorityInfoAccess(read_information_access(value)?)),
+        Known::SubjectInfoAccess => Ok(Value::SubjectInfoAccess(read_information_access(value)?)),
+        Known::PolicyMappings => Ok(Value::PolicyMappings(read_policy_mappings(value)?)),
+        Known::SubjectDirectoryAttributes => Ok(Value::SubjectDirectoryAttributes(read_attributes(value)?)),
+        Known::PolicyConstraints => Ok(Value::PolicyConstraints(read_policy_constraints(value)?)),
+        Known::InhibitAnyPolicy => Ok(Value::InhibitAnyPolicy(read_inhibit_any_policy(value)?)),
+        Known::CrlNumber => Ok(Value::CrlNumber(read_crl_number(value)?)),
+        Known::DeltaCrlIndicator => Ok(Value::DeltaCrlIndicator(read_crl_number(value)?)),
+        Known::IssuingDistributionPoint => Ok(Value::IssuingDistributionPoint(read_issuing_distribution_point(value)?)),
+        Known::ReasonCode => Ok(Value::ReasonCode),
+        Known::InvalidityDate => Ok(Value::InvalidityDate(read_invalidity_date(value)?)),
+        Known::CertificateIssuer => Ok(Value::CertificateIssuer(read_general_names(value)?)),
+        Known::SignedCertificateTimestamps => Ok(Value::SignedCertificateTimestamps(read_timestamps(value)?)),
+        Known::PrecertificatePoison => {
+            read_null(value)?;
             Ok(Value::PrecertificatePoison)
         }
-        Kind::TlsFeatures => Ok(Value::TlsFeatures(read_tls_features(value)?)),
-        Kind::OcspNoCheck => {
-            read_ocsp_no_check(value)?;
+        Known::TlsFeature => Ok(Value::TlsFeatures(read_tls_features(value)?)),
+        Known::OcspNoCheck => {
+            read_null(value)?;
             Ok(Value::OcspNoCheck)
         }
-        Kind::QcStatements => Ok(Value::QcStatements(read_qc_statements(value)?)),
-        Kind::OrganizationIdentifier => Ok(Value::OrganizationIdentifier(read_organization_identifier(value)?)),
-        Kind::Other => Ok(Value::Other),
+        Known::QcStatements => Ok(Value::QcStatements(read_qc_statements(value)?)),
+        Known::OrganizationIdentifier => Ok(Value::OrganizationIdentifier(read_organization_identifier(value)?)),
+        Known::NoRevAvail => {
+            read_null(value)?;
+            Ok(Value::NoRevAvail)
+        }
     }
 }

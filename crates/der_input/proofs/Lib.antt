@@ -1,4 +1,6 @@
+pub mod Dumps
 pub mod Elements
+pub mod Ends
 pub mod Lines
 pub mod Parts
 pub mod Positions

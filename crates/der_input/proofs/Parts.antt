@@ -1,6 +1,6 @@
 -- The parts of strings and of base64, one after another.
-use Rattle.std.proofs.Common.{◌≡◌, ℕ, zero, suc, ◌+◌, ◌-◌, ◌<◌, ◌≤◌, ◌||◌, Bool, cond, false, true, List, [], ◌∷◌, ◌++◌, length, drop, Option, Some, None, refl, ap, append-nil, ◌∙◌, arith}
-use Rattle.std.specs.Prelude.{is_some, slice_index}
+use Rattle.std.proofs.Common.{◌≡◌, ℕ, zero, suc, ◌-◌, ◌<◌, ◌≤◌, ◌||◌, cond, false, true, List, [], ◌∷◌, ◌++◌, length, drop, Option, refl, ap, append-nil, ◌∙◌, arith}
+use Rattle.std.specs.Prelude.{slice_index}
 use Rattle.std.proofs.lemmas.List.{length-append}
 use Rattle.der_input.specs.Escapes.{begins_escape, digits_from, has_escape, part_digits, part_size}
 use Rattle.der_input.specs.Plain.{begins_break, character_of, characters_from}

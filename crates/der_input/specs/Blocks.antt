@@ -1,8 +1,9 @@
 -- Blocks of PEM with text around them (RFC 7468).
-use Rattle.std.specs.Prelude.{◌≡◌, ◌≢◌, ℕ, ◌+◌, ◌<◌, ◌==◌, ◌&&◌, ◌||◌, Bool, true, if◌then◌else◌, Option, Some, None}
+use Rattle.std.specs.Prelude.{◌≡◌, ◌≢◌, ℕ, ◌+◌, ◌<◌, ◌==◌, ◌&&◌, ◌||◌, Bool, true, false, if◌then◌else◌}
+use Rattle.std.specs.Prelude.{Option, Some, None}
 use Rattle.std.specs.Prelude.{List, [], ◌∷◌, ◌++◌, length, take, drop, reverse, codes, find, ◌⊎◌, Ok, IsErr}
-use Rattle.std.specs.Prelude.{nat_lt, slice_index}
-use Rattle.std.specs.List.{position_or_len, range_with_len}
+use Rattle.std.specs.List.{range_with_len}
+use Rattle.std.specs.Option.{option_map_or}
 use Rattle.base64.specs.Engines.{standard_pad_indifferent}
 use Rattle.base64.specs.GeneralPurpose.{decode_of as base64_decode_of}
 use Rattle.bstr.specs.Find.{OccursAt, occurs_at}
@@ -31,10 +32,13 @@ begins_line_after (c ∷ before) = if is_indent c then begins_line_after before 
 abbrev pub begins_line : List ℕ → Bool
 begins_line before = begins_line_after (reverse before)
 
+-- the first backslash or quote is a backslash
+abbrev pub has_escape_first : List ℕ → Bool
+has_escape_first text = option_map_or (λ c. c == 0x5c) (find (λ c. c == 0x5c || c == 0x22) text) false
+
 -- a string of JSON begins in which a line ends, by the octets before and behind its begin
 abbrev pub begins_string : List ℕ → List ℕ → Bool
-begins_string before behind = ends_in before (codes "\"")
-    && nat_lt (position_or_len (λ c. c == 0x5c) behind) (position_or_len (λ c. c == 0x22) behind)
+begins_string before behind = ends_in before (codes "\"") && has_escape_first behind
 
 -- a block begins at the start of a line (RFC 7468 2, 3), or of such a string
 abbrev pub begins_here : List ℕ → ℕ → Bool
@@ -74,27 +78,33 @@ label_of b = b.label.now
 abbrev pub lines_of : Block → List ℕ
 lines_of b = b.lines.now
 
+-- A line ends a block, and no other dashes are before it: lines are before it, and end follows its first octets.
+pub record EndsLines (opened lines end : List ℕ) : Type 0 where
+  pub split : SplitsRound opened (codes "-----END ") lines end
+  pub inside : ¬ Contains lines (codes "-----")
+
+-- none does, or other dashes are before the first that would
+abbrev pub HasNoEnd : List ℕ → Type 0
+HasNoEnd opened = (lines end : List ℕ) → ¬ EndsLines opened lines end
+
 -- The first block of a text: a line with its label begins it, one with the same label ends it, and rest follows.
 pub record BeginsWithBlock (text label lines rest : List ℕ) : Type 0 where
   pub opened : List ℕ
   pub begin : HasLabel text label opened
-  pub end : SplitsRound opened (codes "-----END ") lines (label ++ (codes "-----" ++ rest))
-  pub inside : ¬ Contains lines (codes "-----")
+  pub end : EndsLines opened lines (label ++ (codes "-----" ++ rest))
 
--- Why no block is found though one begins: no dashes follow its label, no line ends it, others are before the one that
--- does, no dashes follow the label of that line, or that is another label.
+-- Why no block is found though one begins: no dashes follow its label, no line ends it, no dashes follow the label of
+-- the line that does, or that is another label.
 pub data BreaksBlock (text : List ℕ) : FormError → Type 0 where
   endless_label : {e : FormError} (block : List ℕ) → e ≡ NoEnd → OpensBlock text block
       → ¬ Contains block (codes "-----") → BreaksBlock text e
   endless_lines : {e : FormError} (label opened : List ℕ) → e ≡ NoEnd → HasLabel text label opened
-      → ¬ Contains opened (codes "-----END ") → BreaksBlock text e
-  other_lines : {e : FormError} (label opened lines end : List ℕ) → e ≡ NoEnd → HasLabel text label opened
-      → SplitsRound opened (codes "-----END ") lines end → Contains lines (codes "-----") → BreaksBlock text e
+      → HasNoEnd opened → BreaksBlock text e
   endless_end : {e : FormError} (label opened lines end : List ℕ) → e ≡ NoEnd → HasLabel text label opened
-      → SplitsRound opened (codes "-----END ") lines end → ¬ Contains end (codes "-----") → BreaksBlock text e
+      → EndsLines opened lines end → ¬ Contains end (codes "-----") → BreaksBlock text e
   other_label : {e : FormError} (label opened lines end last rest : List ℕ) → e ≡ LabelsDiffer
-      → HasLabel text label opened → SplitsRound opened (codes "-----END ") lines end
-      → SplitsRound end (codes "-----") last rest → last ≢ label → BreaksBlock text e
+      → HasLabel text label opened → EndsLines opened lines end → SplitsRound end (codes "-----") last rest
+      → last ≢ label → BreaksBlock text e
 
 -- the lines of a block have the header of encrypted ones (RFC 1421 4.6.1.1)
 abbrev pub IsEncrypted : List ℕ → Type 0

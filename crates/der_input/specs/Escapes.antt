@@ -1,10 +1,10 @@
 -- Strings with escapes, as C, Go, Java, Python and Rust write octets (C11 6.4.4.4, 6.4.5).
-use Rattle.std.specs.Prelude.{ℕ, zero, suc, ◌+◌, ◌-◌, ◌*◌, ◌==◌, ◌&&◌, ◌||◌, nat_le, nat_lt, Bool, true, false}
+use Rattle.std.specs.Prelude.{ℕ, zero, suc, ◌+◌, ◌-◌, ◌*◌, ◌==◌, ◌&&◌, ◌||◌, nat_le, nat_lt, Bool, false}
 use Rattle.std.specs.Prelude.{if◌then◌else◌, Option, Some, None, is_some, List, [], ◌∷◌, ◌++◌, length, drop, codes}
 use Rattle.std.specs.Prelude.{find, slice_index}
 use Rattle.std.specs.Char.{is_ascii_hexdigit}
 use Rattle.std.specs.List.{after_first, before_first, list_all, position_or_len}
-use Rattle.der_input.specs.Marks.{begins_with, is_mark, pair_of}
+use Rattle.der_input.specs.Marks.{begins_with, pair_of}
 
 -- a backslash, x and two hexadecimal digits
 abbrev pub begins_hex : List ℕ → Bool

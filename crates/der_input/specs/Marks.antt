@@ -1,6 +1,6 @@
 -- Octets among others, and what a text begins with.
 use Rattle.std.specs.Prelude.{◌≡◌, ℕ, ◌<◌, ◌+◌, ◌/◌, ◌%◌, ◌==◌, ◌||◌, nat_lt, Bool, if◌then◌else◌, List, [], ◌∷◌, ◌++◌}
-use Rattle.std.specs.Prelude.{Option, MatchOption, ◌≤◌, length, take, drop, find, is_some, codes}
+use Rattle.std.specs.Prelude.{Option, MatchOption, ◌≤◌, length, take, find, is_some, codes}
 use Rattle.std.specs.Char.{is_ascii_whitespace}
 use Rattle.std.specs.List.{list_any, position_or_len, range_with_len, starts_with, ends_with}
 use Rattle.bstr.specs.Find.{occurs_at}

@@ -1,6 +1,6 @@
 -- Numbers in decimal, as Java, Go and Python print octets, and numbers with 0x in the source of a program.
 use Rattle.std.specs.Prelude.{ℕ, ◌+◌, ◌-◌, ◌*◌, ◌==◌, ◌&&◌, ◌||◌, not, nat_le, nat_lt, Bool, if◌then◌else◌}
-use Rattle.std.specs.Prelude.{Option, Some, None, is_some, List, [], ◌∷◌, length, drop, codes, count_by, slice_index}
+use Rattle.std.specs.Prelude.{Option, Some, None, is_some, List, [], ◌∷◌, length, drop, codes, count_by}
 use Rattle.std.specs.Char.{is_ascii_alphanumeric, is_ascii_digit, is_ascii_hexdigit, is_ascii_whitespace}
 use Rattle.std.specs.List.{before_first, list_all, list_any, slice_split}
 use Rattle.der_input.specs.Marks.{begins_with, is_mark, pair_of}

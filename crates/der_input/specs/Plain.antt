@@ -1,7 +1,7 @@
 -- Hexadecimal digits and base64, with what people have between them.
 use Rattle.std.specs.Prelude.{ℕ, zero, suc, ◌+◌, ◌/◌, ◌==◌, ◌&&◌, ◌||◌, not, nat_lt, nat_le, Bool, if◌then◌else◌}
 use Rattle.std.specs.Prelude.{List, [], ◌∷◌, ◌++◌, length, take, drop, codes, count_by, find, slice_index, unwrap_or}
-use Rattle.std.specs.Prelude.{Option, Some, None, filter, is_some}
+use Rattle.std.specs.Prelude.{Option, Some, None, filter}
 use Rattle.std.specs.Char.{is_ascii_alphanumeric, is_ascii_hexdigit, is_ascii_whitespace}
 use Rattle.std.specs.List.{after_first, before_first, flat_map, list_all, list_any, position_or_len, range_with_len}
 use Rattle.std.specs.List.{slice_split}

@@ -1,4 +1,4 @@
-//! The characters of base64 (RFC 4648), with what people have between them.
+//! The characters of base64 (RFC 4648), with what may be between them.
 ghost use Rattle.std.specs.Prelude.{◌≡◌, ◌≤◌, ◌<◌, ◌+◌, true, length};
 ghost use Rattle.std.specs.Prelude.{IfSome};
 ghost use Rattle.std.specs.List.{list_all};
@@ -11,10 +11,10 @@ ghost use Rattle.der_input.specs.Plain.{without_address, without_headers};
 use crate::marks::{after, behind, is_mark, offset_of, put};
 use crate::search::find;
 
-/// How many octets the end of a line has in an escape, as JSON has it.
+/// The octets of an escaped line end, as in JSON.
 const BREAK: usize = 2;
 
-/// Whether a text is characters of base64 and what may be between them.
+/// Returns whether a text is characters of base64 and what may be between them.
 pub(crate) fn is_base64_text(text: &[u8]) -> bool
     ensures { result ≡ is_base64_text text.now }
 {
@@ -33,14 +33,14 @@ fn is_base64(octet: u8) -> bool
     octet.is_ascii_alphanumeric() || octet.is_ascii_whitespace() || is_mark(b"+/-_=\"',;\\", octet)
 }
 
-/// Writes the characters of base64 of a text, and returns how many there are. None if there is no room.
+/// Writes the base64 characters of a text and returns their number. None if `room` is too short.
 pub fn put_characters(text: &[u8], room: &mut [u8]) -> Option<usize>
     ensures { Puts room.old 0 (characters_of text.now) room.new result }
 {
     put_characters_among(without_headers(without_address(text)), room)
 }
 
-/// Writes the characters of base64 among octets, and returns how many there are.
+/// Writes the base64 characters among octets and returns their number.
 fn put_characters_among(octets: &[u8], room: &mut [u8]) -> Option<usize>
     ensures { Puts room.old 0 (characters_from 0 octets.now) room.new result }
 {
@@ -57,7 +57,7 @@ fn put_characters_among(octets: &[u8], room: &mut [u8]) -> Option<usize>
     Some(end)
 }
 
-/// Whether a text begins with the end of a line in an escape, as JSON has it.
+/// Returns whether a text begins with an escaped line end, as in JSON.
 fn begins_break(text: &[u8]) -> bool
     ensures is { result ≡ begins_break text.now }
     ensures long { result ≡ true → 2 ≤ length text.now }
@@ -65,7 +65,7 @@ fn begins_break(text: &[u8]) -> bool
     text.starts_with(b"\\n") || text.starts_with(b"\\r")
 }
 
-/// Writes an octet at an offset, if it is a character of base64, and returns the next one.
+/// Writes an octet, if it is a character of base64, and returns the next offset.
 fn put_character(octet: u8, room: &mut [u8], at: usize) -> Option<usize>
     requires { at ≤ length room.old }
     ensures { Puts room.old at (character_of octet) room.new result }
@@ -76,7 +76,7 @@ fn put_character(octet: u8, room: &mut [u8], at: usize) -> Option<usize>
     Some(at)
 }
 
-/// What follows `data:` and a comma, or else all of a text.
+/// The text after `data:` and a comma, or all of it.
 fn without_address(text: &[u8]) -> &[u8]
     ensures { result.now ≡ without_address text.now }
 {
@@ -86,7 +86,7 @@ fn without_address(text: &[u8]) -> &[u8]
     after(text, offset_of(text, b','))
 }
 
-/// What follows the headers of a block of PEM (RFC 1421 4.4), or else all of a text.
+/// The text after the headers of a PEM block (RFC 1421 4.4), or all of it.
 fn without_headers(text: &[u8]) -> &[u8]
     ensures { result.now ≡ without_headers text.now }
 {
@@ -102,7 +102,7 @@ fn without_headers(text: &[u8]) -> &[u8]
     text
 }
 
-/// What follows the first empty line, if headers are before it.
+/// The text after the first empty line, if headers are before that.
 fn behind_line<'t>(text: &'t [u8], line: &[u8]) -> Option<&'t [u8]>
     requires { 0 < length line.now }
     ensures { option_map (λ x. x.now) result ≡ behind_line text.now line.now }
@@ -113,7 +113,7 @@ fn behind_line<'t>(text: &'t [u8], line: &[u8]) -> Option<&'t [u8]>
     }
 }
 
-/// What is behind an end, if headers are before a place.
+/// The text from `end` on, if headers are before `place`.
 fn behind_headers(text: &[u8], place: usize, end: usize) -> Option<&[u8]>
     requires { place ≤ length text.now }
     ensures { option_map (λ x. x.now) result ≡ behind_headers text.now place end }
@@ -124,7 +124,7 @@ fn behind_headers(text: &[u8], place: usize, end: usize) -> Option<&[u8]>
     None
 }
 
-/// Where a needle occurs first.
+/// The first offset of the needle.
 fn place_of(text: &[u8], needle: &[u8]) -> Option<usize>
     requires { 0 < length needle.now }
     ensures place { result ≡ first_place text.now needle.now }

@@ -1,4 +1,4 @@
-//! Why the octets of an input aren't found.
+//! Errors of decoding an input.
 use std::alloc::{AllocError, AllocFailed};
 
 /// Why the octets of an input aren't found.

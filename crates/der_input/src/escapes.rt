@@ -9,10 +9,10 @@ ghost use Rattle.der_input.specs.Marks.{Puts};
 
 use crate::marks::{after, behind, is_mark, offset_of, put, put_all, put_pair};
 
-/// How many octets `\x30` and `\060` have.
+/// The octets of `\x30` and `\060`.
 const ESCAPE: usize = 4;
 
-/// Whether a text is of ASCII, with an escape as `\x30` or `\060`.
+/// Returns whether a text is ASCII with an escape such as `\x30` or `\060`.
 pub(crate) fn is_escaped(text: &[u8]) -> bool
     ensures { result ≡ is_escaped text.now }
 {
@@ -50,7 +50,7 @@ fn begins_escape(text: &[u8]) -> bool
     begins_hex(text) || begins_octal(text)
 }
 
-/// Whether a text begins with a backslash, x and two hexadecimal digits.
+/// Returns whether a text begins with a backslash, x and two hexadecimal digits.
 fn begins_hex(text: &[u8]) -> bool
     ensures { result ≡ begins_hex text.now }
 {
@@ -60,7 +60,7 @@ fn begins_hex(text: &[u8]) -> bool
         && text[3].is_ascii_hexdigit()
 }
 
-/// Whether a text begins with a backslash and three octal digits, of at most 377.
+/// Returns whether a text begins with a backslash and three octal digits, up to 377.
 fn begins_octal(text: &[u8]) -> bool
     ensures { result ≡ begins_octal text.now }
 {
@@ -78,7 +78,7 @@ fn is_octal(octet: u8) -> bool
     matches!(octet, b'0'..=b'7')
 }
 
-/// The octet that a backslash and three octal digits are.
+/// The octet of a backslash and three octal digits.
 fn octal_of(text: &[u8]) -> u8
     requires { begins_octal text.now ≡ true }
     ensures { result ≡ octal_of text.now }
@@ -86,8 +86,8 @@ fn octal_of(text: &[u8]) -> u8
     64 * (text[1] - b'0') + 8 * (text[2] - b'0') + (text[3] - b'0')
 }
 
-/// Writes the hexadecimal digits of the octets of a text with escapes: of what is in quotes, if one is before the first
-/// backslash, or else of all of it. Returns how many digits there are, or None if there is no room.
+/// Writes the octets of an escaped text as hexadecimal digits and returns their number. If a quote is before the first
+/// backslash, only the quoted strings are read. None if `room` is too short.
 pub(crate) fn put_escaped(text: &[u8], room: &mut [u8]) -> Option<usize>
     ensures { Puts room.old 0 (escaped_digits text.now) room.new result }
 {
@@ -97,7 +97,7 @@ pub(crate) fn put_escaped(text: &[u8], room: &mut [u8]) -> Option<usize>
     }
 }
 
-/// The quote that begins the first string: the first one, if no backslash is before it.
+/// The quote of the first string: the first quote, if no backslash is before it.
 fn quote_of(text: &[u8]) -> Option<u8>
     ensures { result ≡ quote_of text.now }
 {
@@ -119,7 +119,7 @@ fn is_quote(octet: u8) -> bool
     octet == b'"' || octet == b'\''
 }
 
-/// Writes the digits of the parts of a string, and a backslash if a quote isn't closed.
+/// Writes the digits of a string's parts, and a backslash if a quote isn't closed.
 fn put_string(quote: Option<u8>, text: &[u8], room: &mut [u8]) -> Option<usize>
     ensures { Puts room.old 0 (digits_from quote 0 text.now) room.new result }
 {
@@ -140,8 +140,8 @@ fn put_string(quote: Option<u8>, text: &[u8], room: &mut [u8]) -> Option<usize>
     }
 }
 
-/// How many octets the first part of a string has: an escape, a character, or the end of a string with all that is
-/// before the next one. It may be one more than there are.
+/// The octets of the first part of a string: an escape, a character, or the end of a string with all before the next
+/// string. It may be one more than there are.
 fn part_size(quote: Option<u8>, text: &[u8]) -> usize
     requires { 0 < length text.now }
     ensures size { result ≡ part_size quote text.now }
@@ -159,7 +159,7 @@ fn part_size(quote: Option<u8>, text: &[u8]) -> usize
     1
 }
 
-/// Writes the digits of the octet that the first part of a string stands for, if it does.
+/// Writes the digits of the octet that the first part of a string stands for, if any.
 fn put_part(quote: Option<u8>, text: &[u8], room: &mut [u8], at: usize) -> Option<usize>
     requires some { 0 < length text.now }
     requires within { at ≤ length room.old }
@@ -180,8 +180,8 @@ fn put_part(quote: Option<u8>, text: &[u8], room: &mut [u8], at: usize) -> Optio
     put_pair(room, at, text[0])
 }
 
-/// The digits of the octet that a backslash and another octet stand for (C11 6.4.4.4). A line's end stands for nothing,
-/// and a backslash that has no meaning for itself.
+/// The digits of the octet that a backslash and another octet stand for (C11 6.4.4.4). A line end stands for none, and
+/// a backslash without a meaning for itself.
 fn simple_digits(octet: u8) -> &'static [u8]
     ensures { result.now ≡ simple_digits octet }
 {
@@ -203,7 +203,7 @@ fn simple_digits(octet: u8) -> &'static [u8]
     }
 }
 
-/// Whether a text begins with the quote that a string is in.
+/// Returns whether a text begins with the quote of its string.
 fn begins_quote(quote: Option<u8>, text: &[u8]) -> bool
     ensures { result ≡ begins_quote quote text.now }
 {

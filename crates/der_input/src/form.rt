@@ -1,4 +1,4 @@
-//! How an input is written, found by a look at it.
+//! Detects how an input is written.
 ghost use Rattle.std.specs.Prelude.{◌≡◌, ◌↔◌, IfErr, IfOk, IsTrue, find, length, option_copied};
 ghost use Rattle.std.specs.List.{list_any};
 ghost use Rattle.std.specs.Option.{option_map};
@@ -16,18 +16,18 @@ use std::str;
 /// How an input is written.
 #[derive(Clone, Copy, Debug, PartialEq)]
 pub enum Form {
-    /// As octets.
+    /// Octets, as DER and BER are.
     Der,
-    /// As blocks of PEM (RFC 7468).
+    /// Blocks of PEM (RFC 7468).
     Pem,
-    /// As hexadecimal digits.
+    /// Hexadecimal digits.
     Hex,
-    /// As base64.
+    /// Base64.
     Base64,
 }
 
 impl Form {
-    /// What an input of this form is called in a sentence, as `base64`.
+    /// The name of the form in a sentence, such as `base64`.
     pub fn name(self) -> &'static str
         ensures { result.now ≡ form_name self }
     {
@@ -53,12 +53,12 @@ const OTHER_KINDS: [(&[u8], &str); 9] = [
     (b"\xff\xfe", "a text file in UTF-16"),
 ];
 
-/// How an input is written: as octets, or as text that is PEM, hexadecimal digits or base64.
+/// Detects how an input is written: as octets, or as text that is PEM, hexadecimal digits or base64.
 ///
-/// One element of a definite length that ends where the input ends is octets, whatever it contains, if the input isn't
-/// all text. PEM begins at the start of a line, and only text is before it. Other text is in the first notation that it
-/// may be in: a dump, a string with escapes, numbers in decimal, hexadecimal digits, base64, numbers with `0x` among
-/// words. An error if the input begins as a file of another kind does, or is another text.
+/// One element of a definite length that fills the input is octets, unless the input is all text; so is any input that
+/// isn't text. PEM begins at the start of a line, with only text before it. Other text has the first notation that
+/// fits: dump, string with escapes, decimal numbers, hexadecimal digits, base64, numbers with `0x` among words. An
+/// input that begins as another kind of file, or is other text, is an error.
 pub fn form_of(input: &[u8]) -> Result<Form, FormError>
     ensures form { IfOk result (FindsForm input.now) }
     ensures none { IfErr result (FindsNoForm input.now) }
@@ -91,14 +91,14 @@ fn form_of_notation(notation: Notation) -> Form
     }
 }
 
-/// Whether octets are one element, and no text.
+/// Returns whether octets are one element, and not text.
 fn is_binary(input: &[u8]) -> bool
     ensures { IsTrue result ↔ IsBinary input.now }
 {
     is_one_element(input) && !is_text(input)
 }
 
-/// Whether octets are an element of a definite length that ends where they end (X.690 8.1.3).
+/// Returns whether octets are exactly one element of a definite length (X.690 8.1.3).
 fn is_one_element(input: &[u8]) -> bool
     ensures { IsTrue result ↔ IsOneElement input.now }
 {
@@ -108,7 +108,7 @@ fn is_one_element(input: &[u8]) -> bool
     }
 }
 
-/// Whether a length is definite, and this number.
+/// Returns whether a length is definite and this number.
 fn is_definite(length: Length, number: usize) -> bool
     ensures { IsTrue result ↔ (length ≡ Length.Definite number) }
 {
@@ -118,7 +118,7 @@ fn is_definite(length: Length, number: usize) -> bool
     }
 }
 
-/// The kind of a file of another kind.
+/// The name of another kind of file.
 fn other_kind(input: &[u8]) -> Option<&'static str>
     ensures { option_map (λ kind. kind.now) result ≡ other_kind input.now }
 {
@@ -126,7 +126,7 @@ fn other_kind(input: &[u8]) -> Option<&'static str>
     Some(kind)
 }
 
-/// The first row whose octets an input begins with.
+/// The first row with octets that the input begins with.
 fn row_of<'r>(
     rows: &'r [(&'static [u8], &'static str)],
     input: &[u8],
@@ -136,7 +136,7 @@ fn row_of<'r>(
     rows.iter().find(|(octets, _)| input.starts_with(octets))
 }
 
-/// Whether a block of PEM begins, and there are no control characters before it.
+/// Returns whether a PEM block begins, without control characters before it.
 fn begins_after_text(input: &[u8]) -> bool
     ensures { result ≡ begins_after_text input.now }
 {
@@ -146,7 +146,7 @@ fn begins_after_text(input: &[u8]) -> bool
     }
 }
 
-/// Whether octets are UTF-8 without control characters but those of white space.
+/// Returns whether octets are UTF-8 without control characters other than white space.
 fn is_text(input: &[u8]) -> bool
     ensures { IsTrue result ↔ IsText input.now }
 {
@@ -159,7 +159,7 @@ fn is_text(input: &[u8]) -> bool
     str::from_utf8(input).is_ok()
 }
 
-/// Whether there is a control character that isn't white space.
+/// Returns whether there is a control character other than white space.
 fn has_controls(input: &[u8]) -> bool
     ensures { result ≡ list_any is_control input.now }
 {

@@ -1,4 +1,4 @@
-//! Inputs as people have them: octets, PEM (RFC 7468), hexadecimal digits, base64 (RFC 4648).
+//! Decodes inputs: octets, PEM (RFC 7468), hexadecimal digits and base64 (RFC 4648).
 #![tactic(auto)]
 
 mod characters;

@@ -1,23 +1,23 @@
-//! Octets among others, and octets that are written one after another.
+//! Octets among others, and writing octets one after another.
 ghost use Rattle.std.specs.Prelude.{◌≡◌, ◌≤◌, ◌<◌, ◌==◌, ◌∷◌, ◌+◌, [], length, drop};
 ghost use Rattle.std.specs.List.{position_or_len};
 ghost use Rattle.der_input.specs.Marks.{Puts, digit_of, is_mark, is_separator, pair_of};
 
-/// Whether an octet is one of these marks.
+/// Returns whether an octet is one of these marks.
 pub(crate) fn is_mark(marks: &[u8], octet: u8) -> bool
     ensures { result ≡ is_mark marks.now octet }
 {
     marks.iter().any(|mark| *mark == octet)
 }
 
-/// Whether an octet may be between hexadecimal digits: white space, marks, brackets and quotes.
+/// Returns whether an octet may be between hexadecimal digits: white space, marks, brackets and quotes.
 pub(crate) fn is_separator(octet: u8) -> bool
     ensures { result ≡ is_separator octet }
 {
     octet.is_ascii_whitespace() || is_mark(b":,;.-_()[]<>\"'|", octet)
 }
 
-/// Where an octet is first, or the length.
+/// The offset of the first such octet, or the length.
 pub(crate) fn offset_of(text: &[u8], octet: u8) -> usize
     ensures first { result ≡ position_or_len (λ c. c == octet) text.now }
     ensures within { result ≤ length text.now }
@@ -27,7 +27,7 @@ pub(crate) fn offset_of(text: &[u8], octet: u8) -> usize
         .unwrap_or(text.len())
 }
 
-/// What follows the octet at an offset.
+/// The text after the octet at this offset.
 pub(crate) fn after(text: &[u8], offset: usize) -> &[u8]
     requires { offset ≤ length text.now }
     ensures { result.now ≡ drop (offset + 1) text.now }
@@ -38,14 +38,14 @@ pub(crate) fn after(text: &[u8], offset: usize) -> &[u8]
     &text[offset + 1..]
 }
 
-/// What is left of a text from an offset on, which may be behind its end.
+/// The text from this offset on; empty if the offset is after the end.
 pub(crate) fn behind(text: &[u8], offset: usize) -> &[u8]
     ensures { result.now ≡ drop offset text.now }
 {
     text.get(offset..).unwrap_or(&[])
 }
 
-/// Writes octets from an offset on, and returns where they end.
+/// Writes octets at an offset and returns the offset after them.
 pub(crate) fn put_all(room: &mut [u8], at: usize, octets: &[u8]) -> Option<usize>
     requires { at ≤ length room.old }
     ensures { Puts room.old at octets.now room.new result }
@@ -57,7 +57,7 @@ pub(crate) fn put_all(room: &mut [u8], at: usize, octets: &[u8]) -> Option<usize
     Some(end)
 }
 
-/// Writes the hexadecimal digits of an octet at an offset, and returns where they end.
+/// Writes an octet as two hexadecimal digits at an offset and returns the offset after them.
 pub(crate) fn put_pair(room: &mut [u8], at: usize, octet: u8) -> Option<usize>
     requires { at ≤ length room.old }
     ensures { Puts room.old at (pair_of octet) room.new result }
@@ -77,7 +77,7 @@ fn digit_of(number: u8) -> u8
     }
 }
 
-/// Writes an octet at an offset, and returns the next one.
+/// Writes an octet at an offset and returns the next offset.
 pub(crate) fn put(room: &mut [u8], at: usize, octet: u8) -> Option<usize>
     ensures { Puts room.old at (octet ∷ []) room.new result }
 {

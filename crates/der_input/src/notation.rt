@@ -1,4 +1,4 @@
-//! The notation of octets in a text, found by a look at it.
+//! Detects the notation of octets in a text.
 ghost use Rattle.std.specs.Prelude.{◌≡◌};
 ghost use Rattle.std.specs.Char.{is_ascii_hexdigit};
 ghost use Rattle.std.specs.List.{list_all, list_any};
@@ -10,26 +10,25 @@ use crate::marks::{after, is_mark, is_separator, offset_of};
 use crate::numbers::{are_numbers, has_numbers};
 use crate::plain::is_dump;
 
-/// How a text has octets. A text that may be in several of these notations is in the first of them.
+/// The notation of octets in a text. If several fit, it is the first of them.
 #[derive(Clone, Copy, Debug, PartialEq)]
 pub(crate) enum Notation {
-    /// In lines of hexadecimal digits with offsets. Only a dump begins with the offset 0; characters beside its digits
-    /// may look like anything.
+    /// A hex dump: lines of hexadecimal digits with offsets. Only a dump begins with the offset 0. The characters
+    /// beside its digits may look like anything.
     Dump,
-    /// In a string with escapes, as `\x30`. No other notation has a backslash with a number.
+    /// A string with escapes such as `\x30`. No other notation has a backslash with a number.
     Escapes,
-    /// In decimal, with a number that hexadecimal digits don't have for an octet, as `[48, 130, -1]`.
+    /// Decimal numbers, such as `[48, 130, -1]`: one isn't an octet in hexadecimal.
     Decimal,
-    /// In hexadecimal digits: `3003020105` is these, though it may be base64, as base64 of an element almost always has
-    /// other letters.
+    /// Hexadecimal digits. `3003020105` may be base64 too, but base64 of an element almost always has other letters.
     Digits,
     /// In base64.
     Base64,
-    /// In numbers with `0x` among other words. Base64 may have `0x` too.
+    /// Numbers with `0x` among other words. Base64 may have `0x` too.
     Prefixed,
 }
 
-/// The notation of a text, or None if it is in none of these.
+/// The notation of a text, or None if none fits.
 pub(crate) fn notation_of(text: &[u8]) -> Option<Notation>
     ensures { result ≡ notation_of text.now }
 {
@@ -78,7 +77,7 @@ fn is_hex(octet: u8) -> bool
     octet.is_ascii_hexdigit() || is_separator(octet) || is_mark(b"xX", octet)
 }
 
-/// The part of a text in braces, as of an array in C, or all of it where there are none.
+/// The part of a text in braces, as of an array in C, or all of it if there are none.
 pub(crate) fn in_braces(text: &[u8]) -> &[u8]
     ensures { result.now ≡ in_braces text.now }
 {

@@ -1,4 +1,4 @@
-//! Numbers in decimal, as Java, Go and Python print octets, and numbers with `0x` in the source of a program.
+//! Decimal numbers, as Java, Go and Python print octets, and numbers with `0x` in source code.
 ghost use Rattle.std.specs.Prelude.{◌≡◌, ◌==◌, ◌-◌, ◌<◌, ◌≤◌, true, not, length, count_by};
 ghost use Rattle.std.specs.Char.{is_ascii_digit, is_ascii_hexdigit};
 ghost use Rattle.std.specs.List.{flat_map, list_all, list_any, position_or_len, slice_split};
@@ -10,11 +10,10 @@ ghost use Rattle.der_input.specs.Numbers.{value_of};
 
 use crate::marks::{behind, is_mark, put_all, put_pair};
 
-/// What no octet is.
+/// A number that isn't an octet.
 const NO_OCTET: usize = 1000;
 
-/// Whether a text is numbers in decimal, one of which hexadecimal digits don't have for an octet: it has a sign or
-/// three digits.
+/// Returns whether a text is decimal numbers, and one can't be an octet in hexadecimal: it has a sign or three digits.
 pub(crate) fn are_numbers(text: &[u8]) -> bool
     ensures { result ≡ are_numbers text.now }
 {
@@ -35,7 +34,7 @@ fn has_decimal_alone(text: &[u8]) -> bool
         .any(|word| is_decimal_alone(word))
 }
 
-/// Whether a word is a number, or what is between two octets between numbers.
+/// Returns whether a word is a number, or empty between separators.
 fn may_be_number(word: &[u8]) -> bool
     ensures { result ≡ may_be_number word.now }
 {
@@ -48,14 +47,14 @@ fn is_decimal_alone(word: &[u8]) -> bool
     word.starts_with(b"-") || word.len() >= 3
 }
 
-/// Whether an octet may be between numbers in decimal.
+/// Returns whether an octet may be between decimal numbers.
 fn is_between(octet: u8) -> bool
     ensures { result ≡ is_between octet }
 {
     octet.is_ascii_whitespace() || is_mark(b",;()[]<>|", octet)
 }
 
-/// Writes the hexadecimal digits of each number.
+/// Writes each number as hexadecimal digits.
 pub(crate) fn put_numbers(text: &[u8], room: &mut [u8]) -> Option<usize>
     ensures { Puts room.old 0 (flat_map digits_of_number (slice_split is_between text.now)) room.new result }
 {
@@ -66,7 +65,7 @@ pub(crate) fn put_numbers(text: &[u8], room: &mut [u8]) -> Option<usize>
     Some(at)
 }
 
-/// Writes the hexadecimal digits of a number from an offset on, and returns where they end.
+/// Writes a number as hexadecimal digits at an offset and returns the offset after them.
 fn put_number(word: &[u8], room: &mut [u8], at: usize) -> Option<usize>
     requires { at ≤ length room.old }
     ensures { Puts room.old at (digits_of_number word.now) room.new result }
@@ -77,7 +76,7 @@ fn put_number(word: &[u8], room: &mut [u8], at: usize) -> Option<usize>
     }
 }
 
-/// The octet that a number is: one from 0 to 255, or in two's complement one from -128 to -1.
+/// The octet of a number from 0 to 255, or from -128 to -1 in two's complement.
 fn octet_of(word: &[u8]) -> Option<u8>
     ensures { result ≡ octet_of word.now }
 {
@@ -96,7 +95,7 @@ fn negative_octet(number: usize) -> Option<u8>
     None
 }
 
-/// The number of a word of digits, of which the first of several isn't 0, or what no octet is.
+/// The number in a word of digits without a leading 0, or else `NO_OCTET`.
 fn magnitude_of(word: &[u8]) -> usize
     ensures { result ≡ magnitude_of word.now }
 {
@@ -118,7 +117,7 @@ fn are_decimal(word: &[u8]) -> bool
     word.iter().all(|octet| octet.is_ascii_digit())
 }
 
-/// What one to three digits say, and else what no octet is.
+/// The number in one to three digits, or else `NO_OCTET`.
 fn value_of(word: &[u8]) -> usize
     requires { list_all is_ascii_digit word.now ≡ true }
     ensures { result ≡ value_of word.now }
@@ -131,7 +130,7 @@ fn value_of(word: &[u8]) -> usize
     }
 }
 
-/// What a digit says. 0 for another octet below it.
+/// The value of a digit; 0 for octets below `0`.
 fn digit(octet: u8) -> usize
     ensures value { result ≡ octet - 0x30 }
     ensures small { result < 256 }
@@ -139,7 +138,7 @@ fn digit(octet: u8) -> usize
     usize::from(octet.saturating_sub(b'0'))
 }
 
-/// Whether a text has one number with `0x`, or several of an octet each.
+/// Returns whether a text has a single number with `0x`, or several of one octet each.
 pub(crate) fn has_numbers(text: &[u8]) -> bool
     ensures { result ≡ has_numbers text.now }
 {
@@ -147,7 +146,7 @@ pub(crate) fn has_numbers(text: &[u8]) -> bool
     count == 1 || (count > 0 && are_short(text))
 }
 
-/// How many words are numbers with `0x`.
+/// The number of words that are numbers with `0x`.
 fn prefixed_in(text: &[u8]) -> usize
     ensures { result ≡ count_by is_prefixed (slice_split ends_word text.now) }
 {
@@ -163,21 +162,21 @@ fn are_short(text: &[u8]) -> bool
         .all(|word| is_short(word))
 }
 
-/// Whether a number with `0x` is an octet at most, or a word is none.
+/// Returns whether a word is one octet at most, or no number with `0x`.
 fn is_short(word: &[u8]) -> bool
     ensures { result ≡ is_short word.now }
 {
     !is_prefixed(word) || prefixed_digits(word).len() <= 2
 }
 
-/// Whether an octet ends a word in the source of a program.
+/// Returns whether an octet ends a word in source code.
 pub(crate) fn ends_word(octet: u8) -> bool
     ensures { result ≡ ends_word octet }
 {
     !(octet.is_ascii_alphanumeric() || octet == b'_')
 }
 
-/// Whether a word is a number with `0x`, which a type may follow.
+/// Returns whether a word is a number with `0x`, perhaps with a type after it.
 pub(crate) fn is_prefixed(word: &[u8]) -> bool
     ensures { result ≡ is_prefixed word.now }
 {
@@ -198,7 +197,7 @@ pub(crate) fn prefixed_digits(word: &[u8]) -> &[u8]
     &digits[..digits_end(digits)]
 }
 
-/// How many hexadecimal digits a word begins with.
+/// The number of hexadecimal digits that a word begins with.
 fn digits_end(word: &[u8]) -> usize
     ensures first { result ≡ position_or_len (λ c. not (is_ascii_hexdigit c)) word.now }
     ensures within { result ≤ length word.now }

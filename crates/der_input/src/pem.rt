@@ -1,43 +1,46 @@
-//! Blocks of PEM (RFC 7468), with text around them.
-ghost use Rattle.std.specs.Prelude.{◌≡◌, ◌↔◌, ◌+◌, ◌≤◌, ◌||◌, length, drop, codes};
+//! PEM blocks (RFC 7468), with text around them.
+ghost use Rattle.std.specs.Prelude.{◌≡◌, ◌↔◌, ◌+◌, ◌==◌, ◌≤◌, ◌||◌, find, length, drop, codes, option_copied};
 ghost use Rattle.std.specs.Prelude.{IfErr, IfOk, IfSome, IsTrue, MatchOption};
 ghost use Rattle.bstr.specs.Find.{FindsNeedle};
 ghost use Rattle.bstr.specs.Text.{Contains};
-ghost use Rattle.der_input.specs.Blocks.{BeginsWithBlock, BreaksBlock, HasLabel, HasNoLabel, IsEncrypted};
-ghost use Rattle.der_input.specs.Blocks.{OpensBlock, RefusesLines, SpellsLines, SplitsRound};
-ghost use Rattle.der_input.specs.Blocks.{begins_here, begins_line, begins_string, ends_line, first_begin, is_indent};
-ghost use Rattle.der_input.specs.Blocks.{label_of, lines_of};
+ghost use Rattle.der_input.specs.Blocks.{BeginsWithBlock, BreaksBlock, EndsLines, HasLabel, HasNoEnd, HasNoLabel};
+ghost use Rattle.der_input.specs.Blocks.{IsEncrypted, OpensBlock, RefusesLines, SpellsLines, SplitsRound};
+ghost use Rattle.der_input.specs.Blocks.{begins_here, begins_line, begins_string, ends_line, first_begin};
+ghost use Rattle.der_input.specs.Blocks.{has_escape_first, is_indent, label_of, lines_of};
 ghost use Rattle.der_input.specs.Forms.{HasNoBlock};
 ghost use Rattle.der_input.specs.Slices.{DecodesLines};
 
 use crate::error::FormError;
-use crate::marks::{is_mark, offset_of};
+use crate::marks::is_mark;
 use crate::plain::decode_base64;
 use crate::search::{contains, find, rest_from};
 use crate::slices::decode_base64_into;
 use std::alloc::Global;
 
-/// Begins a block, before its label.
+/// The start of a block, before its label.
 pub(crate) const BEGIN: &[u8] = b"-----BEGIN ";
 
 const END: &[u8] = b"-----END ";
 
 const DASHES: &[u8] = b"-----";
 
-/// The header of a block that is encrypted (RFC 1421 4.6.1.1).
+/// The octets from the first dashes on that contain the start of the end line: up to four dashes may be before it.
+const NEAR: usize = 13;
+
+/// The header of an encrypted block (RFC 1421 4.6.1.1).
 const ENCRYPTED: &[u8] = b"Proc-Type: 4,ENCRYPTED";
 
 /// A block.
 #[derive(Clone, Copy)]
 pub struct Block<'a> {
-    /// Its label, as `CERTIFICATE`.
+    /// The label, such as `CERTIFICATE`.
     pub label: &'a [u8],
     /// The lines between the first and the last one.
     lines: &'a [u8],
 }
 
 impl Block<'_> {
-    /// The octets that its lines encode. An error if they are encrypted or no base64.
+    /// Decodes the block. An error if it is encrypted or isn't base64.
     pub fn decode(&self, alloc: Global) -> Result<Vec<u8>, FormError>
         ensures ok { IfOk result (λ v. SpellsLines (lines_of self.now) v.items) }
         ensures err { IfErr result (RefusesLines (lines_of self.now)) }
@@ -48,8 +51,8 @@ impl Block<'_> {
         decode_base64(alloc, self.lines)
     }
 
-    /// Writes the octets that its lines encode, as `decode` returns them, and returns how many there are.
-    /// `room` and OutOfMemory are those of `decode_base64_into`.
+    /// Decodes the block into `octets`, as `decode` does, and returns the number of octets. For `room` and OutOfMemory
+    /// see `decode_base64_into`.
     pub fn decode_into(&self, room: &mut [u8], octets: &mut [u8]) -> Result<usize, FormError>
         ensures { DecodesLines (lines_of self.now) (length room.old) octets.new result }
     {
@@ -59,7 +62,7 @@ impl Block<'_> {
         decode_base64_into(self.lines, room, octets)
     }
 
-    /// Whether its lines have the header of encrypted ones.
+    /// Returns whether the lines have the header of an encrypted block.
     fn is_encrypted(&self) -> bool
         ensures { IsTrue result ↔ IsEncrypted (lines_of self.now) }
     {
@@ -67,9 +70,8 @@ impl Block<'_> {
     }
 }
 
-/// The first block of a text, and the text after it. None if no block begins at the start of a line. Octets
-/// before the block may be of any encoding. An error if a block begins and doesn't end before another one, or
-/// ends with another label.
+/// Returns the first block and the text after it. None if no block begins at the start of a line. Octets before the
+/// block may have any encoding. An error if a block doesn't end before the next one, or ends with another label.
 pub fn next_block(text: &[u8]) -> Result<Option<(Block<'_>, &[u8])>, FormError>
     ensures ok { IfOk result (λ found. MatchOption found
         (HasNoBlock text.now)
@@ -82,12 +84,9 @@ pub fn next_block(text: &[u8]) -> Result<Option<(Block<'_>, &[u8])>, FormError>
     let Some((label, opened)) = split_round(block, DASHES) else {
         return Err(FormError::NoEnd);
     };
-    let Some((lines, end)) = split_round(opened, END) else {
+    let Some((lines, end)) = split_lines(opened) else {
         return Err(FormError::NoEnd);
     };
-    if contains(lines, DASHES) {
-        return Err(FormError::NoEnd);
-    }
     match split_round(end, DASHES) {
         Some((last, rest)) if last == label => Ok(Some((Block { label, lines }, rest))),
         Some(_) => Err(FormError::LabelsDiffer),
@@ -95,8 +94,8 @@ pub fn next_block(text: &[u8]) -> Result<Option<(Block<'_>, &[u8])>, FormError>
     }
 }
 
-/// The label of the first block of a text, and what follows its dashes, even if the block doesn't end. None if no block
-/// begins, or no dashes follow.
+/// The label of the first block and the text after its dashes, even if the block doesn't end. None if no block begins,
+/// or no dashes follow.
 pub fn first_label(text: &[u8]) -> Option<(&[u8], &[u8])>
     ensures { MatchOption result (HasNoLabel text.now) (λ x. HasLabel text.now x.0.now x.1.now) }
 {
@@ -104,7 +103,7 @@ pub fn first_label(text: &[u8]) -> Option<(&[u8], &[u8])>
     split_round(block, DASHES)
 }
 
-/// What follows the first octets of the first block.
+/// The text after the start of the first block.
 fn open_block(text: &[u8]) -> Option<&[u8]>
     ensures { MatchOption result (HasNoBlock text.now) (λ x. OpensBlock text.now x.now) }
 {
@@ -112,7 +111,7 @@ fn open_block(text: &[u8]) -> Option<&[u8]>
     Some(&text[begin + BEGIN.len()..])
 }
 
-/// Where the first block begins: at the start of a line, or after an indent.
+/// The offset of the first block: at the start of a line or after an indent.
 pub fn first_begin(text: &[u8]) -> Option<usize>
     ensures first { result ≡ first_begin text.now }
     ensures within { IfSome result (λ k. k + 11 ≤ length text.now) }
@@ -127,7 +126,7 @@ pub fn first_begin(text: &[u8]) -> Option<usize>
     None
 }
 
-/// Where the first octets of a block occur next.
+/// The next offset of the start of a block.
 fn next_begin(text: &[u8], from: usize) -> Option<usize>
     requires { from ≤ length text.now }
     ensures { FindsNeedle text.now (codes "-----BEGIN ") from result }
@@ -137,7 +136,7 @@ fn next_begin(text: &[u8], from: usize) -> Option<usize>
     Some(from + distance)
 }
 
-/// Whether a line begins at an offset of a text, or a string in which a line ends.
+/// Returns whether a line begins at this offset, or a JSON string with a line end in it.
 fn begins_here(text: &[u8], begin: usize) -> bool
     requires { begin ≤ length text.now }
     ensures { result ≡ begins_here text.now begin }
@@ -146,7 +145,7 @@ fn begins_here(text: &[u8], begin: usize) -> bool
     begins_line(before) || begins_string(before, behind)
 }
 
-/// Whether a line begins after these octets, or nothing but an indent is on it yet.
+/// Returns whether a line begins after these octets, perhaps with an indent.
 fn begins_line(before: &[u8]) -> bool
     ensures { result ≡ begins_line before.now }
 {
@@ -161,15 +160,15 @@ fn begins_line(before: &[u8]) -> bool
     true
 }
 
-/// Whether an octet may be before a block on its line: white space, quotes, the mark that a mail has there, and the
-/// mark at the begin of a file of UTF-8.
+/// Returns whether an octet may be before a block on its line: white space, quotes, the `>` of a mail, and the octets
+/// of a byte order mark in UTF-8.
 fn is_indent(octet: u8) -> bool
     ensures { result ≡ is_indent octet }
 {
     is_mark(b" \t>\"'\xef\xbb\xbf", octet)
 }
 
-/// Whether a line ends with these octets: it may end in an escape, as in JSON.
+/// Returns whether a line ends with these octets, perhaps as an escape, as in JSON.
 fn ends_line(before: &[u8]) -> bool
     ensures { result ≡ ends_line before.now }
 {
@@ -179,14 +178,43 @@ fn ends_line(before: &[u8]) -> bool
         || before.ends_with(b"\\r")
 }
 
-/// Whether a string of JSON begins in which a line ends, by the octets before and behind its begin.
+/// Returns whether a JSON string with a line end in it begins between these octets.
 fn begins_string(before: &[u8], behind: &[u8]) -> bool
     ensures { result ≡ begins_string before.now behind.now }
 {
-    before.ends_with(b"\"") && offset_of(behind, b'\\') < offset_of(behind, b'"')
+    before.ends_with(b"\"") && has_escape_first(behind)
 }
 
-/// What is before and after the first offset where a needle occurs.
+/// Returns whether a backslash comes before any quote. The search ends at the next string at the latest.
+fn has_escape_first(text: &[u8]) -> bool
+    ensures { result ≡ has_escape_first text.now }
+{
+    match first_mark(text) {
+        Some(mark) => *mark == b'\\',
+        None => false,
+    }
+}
+
+/// The first backslash or quote.
+fn first_mark(text: &[u8]) -> Option<&u8>
+    ensures { option_copied result ≡ find (λ c. c == 0x5c || c == 0x22) text.now }
+{
+    text.iter().find(|octet| matches!(**octet, b'\\' | b'"'))
+}
+
+/// The lines of a block, and the text after the start of its end line. None if there is no end line, or other dashes
+/// are before it. Only the text near the first dashes is searched: otherwise a text of many blocks without an end would
+/// be read to its end for each of them.
+fn split_lines(opened: &[u8]) -> Option<(&[u8], &[u8])>
+    ensures { MatchOption result (HasNoEnd opened.now) (λ x. EndsLines opened.now x.0.now x.1.now) }
+{
+    let dashes = find(opened, DASHES)?;
+    let near = &opened[..opened.len().min(dashes + NEAR)];
+    let (lines, _) = split_round(near, END)?;
+    Some((lines, &opened[lines.len() + END.len()..]))
+}
+
+/// The text before and after the first occurrence of the needle.
 fn split_round<'a>(text: &'a [u8], needle: &[u8]) -> Option<(&'a [u8], &'a [u8])>
     ensures { MatchOption result (¬ Contains text.now needle.now)
         (λ x. SplitsRound text.now needle.now x.0.now x.1.now) }

@@ -1,5 +1,5 @@
-//! Hexadecimal digits and base64, with what people have between them.
-ghost use Rattle.std.specs.Prelude.{◌≡◌, ◌⊎◌, ◌≤◌, ◌==◌, ◌+◌, not, length, filter, take};
+//! Hexadecimal digits and base64, with what may be between them.
+ghost use Rattle.std.specs.Prelude.{◌≡◌, ◌⊎◌, ◌≤◌, ◌<◌, ◌==◌, ◌+◌, drop, not, length, filter, take};
 ghost use Rattle.std.specs.Prelude.{IfErr, IfOk, IsErr, count_by, find, unwrap_or};
 ghost use Rattle.std.specs.List.{flat_map, list_all, position_or_len, range_with_len, slice_split};
 ghost use Rattle.std.specs.Char.{is_ascii_hexdigit, is_ascii_whitespace};
@@ -23,12 +23,12 @@ use base64::engine::general_purpose::STANDARD_PAD_INDIFFERENT;
 use hex::FromHexError;
 use std::alloc::Global;
 
-/// The fewest digits of the offset that a hex dump begins with.
+/// The fewest digits of the first offset in a hex dump.
 const OFFSET_DIGITS: usize = 4;
 
-/// Decodes hexadecimal digits. White space, marks, brackets and quotes may be between them, `0x` before
-/// a word, and a word of one digit is an octet. Of an array in C what is in braces is read, and of a hex
-/// dump what is between its offsets and its characters.
+/// Decodes hexadecimal digits. White space, marks, brackets and quotes may be between them, and `0x` before a word; a
+/// word of one digit is an octet. In a C array only the text in braces is read, and in a hex dump only the digits
+/// between offsets and characters.
 pub fn decode_hex(alloc: Global, text: &[u8]) -> Result<Vec<u8>, FormError>
     ensures ok { IfOk result (λ v. hex_decode_of (digits_of text.now) ≡ Ok v.items) }
     ensures err { IfErr result (λ e. (e ≡ FormError.OutOfMemory)
@@ -47,8 +47,8 @@ pub fn decode_hex(alloc: Global, text: &[u8]) -> Result<Vec<u8>, FormError>
     }
 }
 
-/// Decodes base64 of either alphabet, with or without padding (RFC 4648 4, 5). White space, quotes and the
-/// begin of a `data:` address are passed over.
+/// Decodes base64 of either alphabet, with or without padding (RFC 4648 4, 5). White space, quotes and the start of a
+/// `data:` URL are skipped.
 pub fn decode_base64(alloc: Global, text: &[u8]) -> Result<Vec<u8>, FormError>
     ensures ok { IfOk result (λ v. base64_decode_of standard_pad_indifferent (characters_of text.now) ≡ Ok v.items) }
     ensures err { IfErr result (λ e. (e ≡ FormError.OutOfMemory) ⊎ ((e ≡ FormError.Base64)
@@ -67,13 +67,13 @@ pub fn decode_base64(alloc: Global, text: &[u8]) -> Result<Vec<u8>, FormError>
     }
 }
 
-/// Room for the digits of a text: each octet of it is a word of one digit at most.
+/// A buffer for the digits of a text, two for each octet.
 fn room_for(alloc: Global, text: &[u8]) -> Option<Vec<u8>> {
     let size = text.len().checked_mul(2)?;
     vec![in alloc; 0; size].ok()
 }
 
-/// Writes the hexadecimal digits of a text, and returns how many there are. None if there is no room.
+/// Writes the hexadecimal digits of a text and returns their number. None if `room` is too short.
 pub fn put_digits(text: &[u8], room: &mut [u8]) -> Option<usize>
     ensures { Puts room.old 0 (digits_of text.now) room.new result }
 {
@@ -108,7 +108,7 @@ fn put_words(text: &[u8], room: &mut [u8]) -> Option<usize>
     Some(at)
 }
 
-/// Writes the digits of each number with `0x` in the source of a program.
+/// Writes the digits of each number with `0x` in source code.
 fn put_source(text: &[u8], room: &mut [u8]) -> Option<usize>
     ensures { Puts room.old 0 (flat_map digits_of_source (slice_split ends_word text.now)) room.new result }
 {
@@ -119,7 +119,7 @@ fn put_source(text: &[u8], room: &mut [u8]) -> Option<usize>
     Some(at)
 }
 
-/// Writes the digits of a word in the source of a program, if it is a number with `0x`.
+/// Writes the digits of a word in source code, if it is a number with `0x`.
 fn put_source_word(word: &[u8], room: &mut [u8], at: usize) -> Option<usize>
     requires { at ≤ length room.old }
     ensures { Puts room.old at (digits_of_source word.now) room.new result }
@@ -130,7 +130,7 @@ fn put_source_word(word: &[u8], room: &mut [u8], at: usize) -> Option<usize>
     Some(at)
 }
 
-/// Writes the digits of a word from an offset on, and returns where they end.
+/// Writes the digits of a word at an offset and returns the offset after them.
 fn put_word(word: &[u8], room: &mut [u8], at: usize) -> Option<usize>
     requires { at ≤ length room.old }
     ensures { Puts room.old at (digits_of_word word.now) room.new result }
@@ -138,7 +138,7 @@ fn put_word(word: &[u8], room: &mut [u8], at: usize) -> Option<usize>
     put_padded(without_prefix(word), room, at)
 }
 
-/// Writes digits from an offset on, with a zero before a single one.
+/// Writes digits at an offset, with a zero before a single one.
 fn put_padded(digits: &[u8], room: &mut [u8], at: usize) -> Option<usize>
     requires { at ≤ length room.old }
     ensures { Puts room.old at (padded digits.now) room.new result }
@@ -151,7 +151,7 @@ fn put_padded(digits: &[u8], room: &mut [u8], at: usize) -> Option<usize>
     put_all(room, begin, digits)
 }
 
-/// A word without `0x` before it.
+/// A word without its `0x`.
 fn without_prefix(word: &[u8]) -> &[u8]
     ensures { result.now ≡ without_prefix word.now }
 {
@@ -161,7 +161,7 @@ fn without_prefix(word: &[u8]) -> &[u8]
     word
 }
 
-/// Writes the digits of a line of a hex dump from an offset on, and returns where they end.
+/// Writes the digits of a line of a hex dump at an offset and returns the offset after them.
 fn put_line(line: &[u8], room: &mut [u8], at: usize) -> Option<usize>
     requires { at ≤ length room.old }
     ensures { Puts room.old at (digits_of_line line.now) room.new result }
@@ -170,7 +170,7 @@ fn put_line(line: &[u8], room: &mut [u8], at: usize) -> Option<usize>
     put_digits_among(digits, room, at)
 }
 
-/// Writes what isn't a separator from an offset on, and returns where it ends.
+/// Writes the octets that aren't separators at an offset and returns the offset after them.
 fn put_digits_among(octets: &[u8], room: &mut [u8], at: usize) -> Option<usize>
     requires { at ≤ length room.old }
     ensures { Puts room.old at (filter (λ c. not (is_separator c)) octets.now) room.new result }
@@ -184,7 +184,7 @@ fn put_digits_among(octets: &[u8], room: &mut [u8], at: usize) -> Option<usize>
     Some(end)
 }
 
-/// Whether a text is a hex dump: it begins with the offset 0.
+/// Returns whether a text is a hex dump: it begins with the offset 0.
 pub(crate) fn is_dump(text: &[u8]) -> bool
     ensures { result ≡ is_dump text.now }
 {
@@ -198,7 +198,7 @@ fn begins_with_zero(text: &[u8]) -> bool
     zeros >= OFFSET_DIGITS && zeros < text.len() && ends_offset(text[zeros])
 }
 
-/// How many zeros a text begins with.
+/// The number of zeros that a text begins with.
 fn zeros_before(text: &[u8]) -> usize
     ensures first { result ≡ position_or_len (λ c. not (c == 0x30)) text.now }
     ensures within { result ≤ length text.now }
@@ -208,14 +208,14 @@ fn zeros_before(text: &[u8]) -> usize
         .unwrap_or(text.len())
 }
 
-/// What follows the white space at the begin of a line.
+/// The line without its leading white space.
 fn without_margin(line: &[u8]) -> &[u8]
     ensures { result.now ≡ without_margin line.now }
 {
     &line[margin_of(line)..]
 }
 
-/// How much white space is at the begin of a line.
+/// The length of the leading white space.
 fn margin_of(line: &[u8]) -> usize
     ensures first { result ≡ position_or_len (λ c. not (is_ascii_whitespace c)) line.now }
     ensures within { result ≤ length line.now }
@@ -225,7 +225,7 @@ fn margin_of(line: &[u8]) -> usize
         .unwrap_or(line.len())
 }
 
-/// A line of a hex dump behind its offset, or the line itself where another word begins it.
+/// A line of a hex dump after its offset, or the whole line if it begins with another word.
 fn behind_offset(line: &[u8]) -> &[u8]
     ensures { result.now ≡ behind_offset line.now }
 {
@@ -236,7 +236,7 @@ fn behind_offset(line: &[u8]) -> &[u8]
     after(line, end)
 }
 
-/// Where the offset at the begin of a line ends.
+/// The end of the offset at the start of a line.
 fn offset_end(line: &[u8]) -> usize
     ensures first { result ≡ position_or_len ends_offset line.now }
     ensures within { result ≤ length line.now }
@@ -252,7 +252,7 @@ fn are_hexadecimal(octets: &[u8]) -> bool
     octets.iter().all(|octet| octet.is_ascii_hexdigit())
 }
 
-/// What is before the octets as characters on a line of a hex dump.
+/// A line of a hex dump without its column of characters.
 fn before_characters(line: &[u8]) -> &[u8]
     ensures { result.now ≡ before_characters line.now }
 {
@@ -263,30 +263,63 @@ fn before_characters(line: &[u8]) -> &[u8]
     &line[..end]
 }
 
-/// Where the octets as characters begin on a line of a hex dump, or its length.
+/// The start of the column of characters on a line of a hex dump, or the length of the line. It goes backwards so that
+/// each octet is counted once.
 fn characters_begin(line: &[u8]) -> usize
     ensures { result ≡ unwrap_or (find (begins_characters line.now) (range_with_len 0 (length line.now)))
         (length line.now) }
 {
-    (0..line.len())
-        .find(|offset| begins_characters(line, *offset))
-        .unwrap_or(line.len())
+    let mut begin = line.len();
+    let mut offset = line.len();
+    let mut digits = digits_in(line);
+    let mut characters = 0;
+    'octets: while offset > 0 {
+        offset -= 1;
+        digits = digits_before(line, offset, digits);
+        characters = behind_margin(line, offset, characters);
+        if begins_characters(line, offset, digits, characters) {
+            begin = offset;
+        }
+    }
+    begin
 }
 
-/// Whether the octets as characters begin at an offset of a line: after digits and a gap of two spaces, if no more
-/// characters follow than there are pairs of digits, and a bar on either side.
-fn begins_characters(line: &[u8], offset: usize) -> bool
+/// Returns whether the column of characters begins at this offset: after digits and two spaces, with no more characters
+/// than pairs of digits and two bars.
+fn begins_characters(line: &[u8], offset: usize, digits: usize, characters: usize) -> bool
+    requires within { offset ≤ length line.now }
+    requires digits { digits ≡ count_by is_ascii_hexdigit (take offset line.now) }
+    requires characters { characters ≡ length (without_margin (drop offset line.now)) }
     ensures { result ≡ begins_characters line.now offset }
 {
-    let rest = line.get(offset..).unwrap_or(&[]);
-    if !rest.starts_with(b"  ") {
-        return false;
-    }
-    let digits = digits_in(line.get(..offset).unwrap_or(line));
-    digits > 0 && without_margin(rest).len() <= digits / 2 + 2
+    line[offset..].starts_with(b"  ") && digits > 0 && characters <= digits / 2 + 2
 }
 
-/// How many octets are hexadecimal digits.
+/// The number of hexadecimal digits before an offset, from that before the next offset.
+fn digits_before(line: &[u8], offset: usize, next: usize) -> usize
+    requires within { offset < length line.now }
+    requires next { next ≡ count_by is_ascii_hexdigit (take (offset + 1) line.now) }
+    ensures { result ≡ count_by is_ascii_hexdigit (take offset line.now) }
+{
+    if line[offset].is_ascii_hexdigit() {
+        return next - 1;
+    }
+    next
+}
+
+/// The number of octets after the white space at an offset, from that at the next offset.
+fn behind_margin(line: &[u8], offset: usize, next: usize) -> usize
+    requires within { offset < length line.now }
+    requires next { next ≡ length (without_margin (drop (offset + 1) line.now)) }
+    ensures { result ≡ length (without_margin (drop offset line.now)) }
+{
+    if line[offset].is_ascii_whitespace() {
+        return next;
+    }
+    line.len() - offset
+}
+
+/// The number of hexadecimal digits.
 fn digits_in(octets: &[u8]) -> usize
     ensures { result ≡ count_by is_ascii_hexdigit octets.now }
 {

@@ -1,12 +1,11 @@
-//! Where octets occur in others. (The searches of `bstr` may own a copy of what they look for: the page has no memory to
-//! give back.)
+//! Searches octets in others. The page can't free memory, and the searchers of `bstr` may own a copy of the needle.
 ghost use Rattle.std.specs.Prelude.{◌≡◌, ◌↔◌, ◌≤◌, IsTrue, drop, length};
 ghost use Rattle.bstr.specs.Text.{Contains};
 ghost use Rattle.memchr.specs.Find.{FindsNeedle, IsFirst, OccursAt, Passes, is_byte};
 
 use memchr::memchr;
 
-/// Whether a needle occurs in a text.
+/// Returns whether the needle occurs in the text.
 pub(crate) fn contains(text: &[u8], needle: &[u8]) -> bool
     ensures { IsTrue result ↔ Contains text.now needle.now }
 {
@@ -16,7 +15,7 @@ pub(crate) fn contains(text: &[u8], needle: &[u8]) -> bool
     }
 }
 
-/// Where a needle occurs first in a text.
+/// The first offset of the needle in the text.
 pub(crate) fn find(text: &[u8], needle: &[u8]) -> Option<usize>
     ensures { FindsNeedle text.now needle.now 0 result }
 {
@@ -34,7 +33,7 @@ pub(crate) fn find(text: &[u8], needle: &[u8]) -> Option<usize>
     None
 }
 
-/// Where an octet is next in a text, from an offset on.
+/// The next offset of the octet, from `from` on.
 fn next_place(text: &[u8], octet: u8, from: usize) -> Option<usize>
     requires { from ≤ length text.now }
     ensures { IsFirst (Passes (is_byte octet) text.now) from (length text.now) result }
@@ -43,7 +42,7 @@ fn next_place(text: &[u8], octet: u8, from: usize) -> Option<usize>
     Some(from + distance)
 }
 
-/// Whether a needle occurs at an offset of a text.
+/// Returns whether the needle is at this offset of the text.
 fn occurs_at(text: &[u8], needle: &[u8], place: usize) -> bool
     requires { place ≤ length text.now }
     ensures { IsTrue result ↔ OccursAt text.now needle.now place }
@@ -51,7 +50,7 @@ fn occurs_at(text: &[u8], needle: &[u8], place: usize) -> bool
     rest_from(text, place).starts_with(needle)
 }
 
-/// What is left of a text from an offset on.
+/// The text from this offset on.
 pub(crate) fn rest_from(text: &[u8], from: usize) -> &[u8]
     requires { from ≤ length text.now }
     ensures { result.now ≡ drop from text.now }

@@ -1,4 +1,4 @@
-//! Decoding into slices, without memory.
+//! Decoding into slices, without allocation.
 ghost use Rattle.std.specs.Prelude.{◌≢◌, ◌≤◌, ◌+◌, ◌*◌, length};
 ghost use Rattle.der_input.specs.Slices.{DecodesBase64, DecodesDigits};
 
@@ -8,9 +8,9 @@ use crate::plain::put_digits;
 use base64::decoded_len_estimate;
 use base64::engine::general_purpose::STANDARD_PAD_INDIFFERENT;
 
-/// Decodes hexadecimal digits as `decode_hex` does, and returns how many octets it writes. It writes the digits to
-/// `room` first. OutOfMemory if `room` is shorter than the digits, or `octets` than half of them: neither is, if `room`
-/// is twice as long as the text, and `octets` as long as the text.
+/// Decodes hexadecimal digits as `decode_hex` does and returns the number of octets. `room` takes the digits first.
+/// OutOfMemory if `room` is shorter than the digits, or `octets` than half of them. Enough are a `room` of twice the
+/// text, and `octets` as long as the text.
 pub fn decode_hex_into(text: &[u8], room: &mut [u8], octets: &mut [u8]) -> Result<usize, FormError>
     ensures decoded { DecodesDigits text.now (length room.old) octets.new result }
     ensures enough { 2 * length text.now ≤ length room.old → length text.now ≤ length octets.old
@@ -29,9 +29,9 @@ pub fn decode_hex_into(text: &[u8], room: &mut [u8], octets: &mut [u8]) -> Resul
     }
 }
 
-/// Decodes base64 as `decode_base64` does, and returns how many octets it writes. It writes the characters to `room`
-/// first. OutOfMemory if `room` is shorter than the characters, or `octets` than three for each four of them, the last
-/// ones rounded up: neither is, if `room` is as long as the text, and `octets` two octets longer.
+/// Decodes base64 as `decode_base64` does and returns the number of octets. `room` takes the characters first.
+/// OutOfMemory if `room` is shorter than the characters, or `octets` than three for each four of them, rounded up.
+/// Enough are a `room` as long as the text, and `octets` of two more.
 pub fn decode_base64_into(
     text: &[u8],
     room: &mut [u8],

@@ -1,11 +1,11 @@
--- The names of the types that are known, in the documents that define them.
+-- The names of the known types, in the documents that define them.
 use Rattle.std.specs.Prelude.{ℕ, List, [], ◌∷◌, ◌++◌, codes}
 
 -- certificates and requests (RFC 5280, RFC 2986)
 abbrev pub certificate_names : List (List ℕ)
 certificate_names = codes "Certificate" ∷ codes "CertificateList" ∷ codes "CertificationRequest" ∷ []
 
--- keys (RFC 5958, RFC 5280, RFC 8017, RFC 5915), and stores of them (RFC 7292)
+-- keys (RFC 5958, RFC 5280, RFC 8017, RFC 5915), and PKCS #12 (RFC 7292)
 abbrev pub key_names : List (List ℕ)
 key_names =
     codes "PrivateKeyInfo" ∷ codes "SubjectPublicKeyInfo" ∷ codes "RSAPrivateKey" ∷ codes "ECPrivateKey"
@@ -24,7 +24,7 @@ protocol_names =
     ∷ codes "TGS-REQ" ∷ codes "TGS-REP" ∷ codes "Ticket" ∷ codes "AP-REQ" ∷ codes "AP-REP" ∷ codes "KRB-SAFE"
     ∷ codes "KRB-PRIV" ∷ codes "KRB-CRED" ∷ codes "KRB-ERROR" ∷ []
 
--- what is tried last: keys of RSA alone (RFC 8017), attribute certificates (RFC 5755)
+-- the types that are tried last: RSA public keys (RFC 8017), attribute certificates (RFC 5755)
 abbrev pub last_names : List (List ℕ)
 last_names = codes "RSAPublicKey" ∷ codes "AttributeCertificate" ∷ []
 

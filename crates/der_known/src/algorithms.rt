@@ -1,4 +1,4 @@
-//! Algorithms with their parameters, and signatures (RFC 5280 4.1.1.2, 4.1.1.3).
+//! Algorithms with their parameters, and values of signatures (RFC 5280 4.1.1.2, 4.1.1.3).
 use crate::numbered::{
     CURVE, DIGEST_ALGORITHM, GCM, INNER_ALGORITHM, KEY_DERIVATION, PASSWORD_BASED,
     SIGNATURE_NUMBERS,
@@ -7,7 +7,7 @@ use crate::universal::{BIT_STRING, INTEGER, NULL, OBJECT_IDENTIFIER, OCTET_STRIN
 use der_schema::schema::{Component, Inside, Selection, Type};
 use der_schema::{explicit, field, optional, selection, sequence, string, tagged};
 
-/// An AlgorithmIdentifier whose parameters are any element, as that of a digest.
+/// An AlgorithmIdentifier whose parameters are any element, such as that of a digest.
 static DIGEST_ALGORITHM_TYPE: Component = field!("" sequence![
     field!("algorithm" OBJECT_IDENTIFIER),
     optional!("parameters" Type::Any),
@@ -35,7 +35,7 @@ fn key_derivation() -> &'static Component {
 const PBKDF2: Selection =
     selection!(b"\x2a\x86\x48\x86\xf7\x0d\x01\x05\x0c" field!("" KEY_DERIVATION));
 
-/// The parameters of algorithms that others name in their parameters (RFC 8018, RFC 7914, RFC 8017).
+/// The parameters of algorithms that occur in the parameters of others (RFC 8018, RFC 7914, RFC 8017).
 const INNER_PARAMETERS: &[Selection] = &[
     PBKDF2,
     // id-scrypt
@@ -170,7 +170,7 @@ fn signature_numbers() -> &'static Component {
     &SIGNATURE_NUMBERS_TYPE
 }
 
-/// What a signature is (RFC 3279 2.2, RFC 5758 3). That of RSA isn't DER.
+/// The values of signatures (RFC 3279 2.2, RFC 5758 3). That of an RSA signature isn't DER.
 const SIGNATURES: &[Selection] = &[
     // ecdsa-with-SHA1, ecdsa-with-SHA224, ecdsa-with-SHA256, ecdsa-with-SHA384, ecdsa-with-SHA512
     selection!(b"\x2a\x86\x48\xce\x3d\x04\x01" field!("ecdsaSigValue" SIGNATURE_NUMBERS)),
@@ -184,7 +184,7 @@ const SIGNATURES: &[Selection] = &[
     selection!(b"\x60\x86\x48\x01\x65\x03\x04\x03\x02" field!("dssSigValue" SIGNATURE_NUMBERS)),
 ];
 
-/// The AlgorithmIdentifier before a signature, which says what the signature is.
+/// The AlgorithmIdentifier before a signature, which selects the type of the signature.
 static SIGNATURE_ALGORITHM_TYPE: Component =
     field!("algorithmIdentifier" tagged!(Universal 16 Constructed Inside::Begins(ALGORITHM_COMPONENTS, SIGNATURES)));
 
@@ -195,7 +195,7 @@ fn signature_algorithm() -> &'static Component {
 /// A BIT STRING that is a signature.
 pub(crate) const SIGNATURE: Type = string!(3 Inside::Chosen);
 
-/// Its types, in the order of their numbers.
+/// The types of this module, in the order of their numbers.
 pub(crate) fn types() -> [&'static Component; 9] {
     [
         digest_algorithm(),

@@ -131,7 +131,7 @@ fn attribute_certificate() -> &'static Component {
     &ATTRIBUTE_CERTIFICATE_TYPE
 }
 
-/// Its types, in the order of their numbers.
+/// The types of this module, in the order of their numbers.
 pub(crate) fn types() -> [&'static Component; 4] {
     [
         attribute_certificate(),

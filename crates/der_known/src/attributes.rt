@@ -118,7 +118,7 @@ fn bag_attribute() -> &'static Component {
 /// What is inside a SET OF attributes of a bag.
 pub(crate) const BAG_ATTRIBUTES: Inside = Inside::Each(&field!("" BAG_ATTRIBUTE));
 
-/// Its types, in the order of their numbers.
+/// The types of this module, in the order of their numbers.
 pub(crate) fn types() -> [&'static Component; 6] {
     [
         attribute(),

@@ -1,4 +1,4 @@
-//! Certificates and lists of revoked ones (RFC 5280 4.1, 5.1), and requests (RFC 2986 4).
+//! Certificates and CRLs (RFC 5280 4.1, 5.1), and certification requests (RFC 2986 4).
 use crate::algorithms::SIGNATURE;
 use crate::attributes::ATTRIBUTES;
 use crate::extensions::EXTENSIONS;
@@ -78,7 +78,7 @@ fn certification_request() -> &'static Component {
     &CERTIFICATION_REQUEST_TYPE
 }
 
-/// Its types, in the order of their numbers.
+/// The types of this module, in the order of their numbers.
 pub(crate) fn types() -> [&'static Component; 3] {
     [certificate(), certificate_list(), certification_request()]
 }

@@ -1,4 +1,4 @@
-//! Messages (RFC 5652, RFC 5083, RFC 3274), and packages of keys in them (RFC 5958).
+//! Messages of CMS (RFC 5652, RFC 5083, RFC 3274), and key packages in them (RFC 5958).
 use crate::algorithms::SIGNATURE;
 use crate::attributes::MESSAGE_ATTRIBUTES;
 use crate::certificates::{CERTIFICATE_LIST_SEQUENCE, CERTIFICATE_SEQUENCE};
@@ -17,7 +17,7 @@ use der_schema::{
 /// An AsymmetricKeyPackage (RFC 5958 2).
 const KEY_PACKAGE: Type = sequence_of!(field!("oneAsymmetricKey" PRIVATE_KEY_INFO));
 
-/// What the content of an EncapsulatedContentInfo is (RFC 3161 2.4.2, RFC 5958 2). Data is any octets.
+/// The content of an EncapsulatedContentInfo, by its type (RFC 3161 2.4.2, RFC 5958 2). Data is any octets.
 const ENCAPSULATED: &[Selection] = &[
     // id-ct-TSTInfo
     selection!(b"\x2a\x86\x48\x86\xf7\x0d\x01\x09\x10\x01\x04" field!("tstInfo" TIME_STAMP_INFO)),
@@ -114,7 +114,7 @@ const ORIGINATOR_INFO: Inside = Inside::Components(&[
     optional!("crls" implicit!(1 REVOCATIONS)),
 ]);
 
-/// A recipient by its key: the identifier, and when and how it is from (RFC 5652 6.2.2, 6.2.3).
+/// A recipient by the identifier of its key, with the date and another attribute of the key (RFC 5652 6.2.2, 6.2.3).
 const KEY_IDENTIFIER: Inside = Inside::Components(&[
     field!("subjectKeyIdentifier" OCTET_STRING),
     optional!("date" GENERALIZED_TIME),
@@ -252,7 +252,7 @@ fn auth_enveloped_data() -> &'static Component {
     &AUTH_ENVELOPED_DATA_TYPE
 }
 
-/// What the content of a ContentInfo is (RFC 5652 4 to 9, RFC 2315 11, RFC 5083 2.1, RFC 3274 1.1, RFC 5958 2).
+/// The content of a ContentInfo, by its type (RFC 5652 4 to 9, RFC 2315 11, RFC 5083 2.1, RFC 3274 1.1, RFC 5958 2).
 const CONTENTS: &[Selection] = &[
     // id-data, id-signedData, id-envelopedData, signedAndEnvelopedData, id-digestedData, id-encryptedData
     selection!(b"\x2a\x86\x48\x86\xf7\x0d\x01\x07\x01" field!("data" OCTET_STRING)),
@@ -289,7 +289,7 @@ fn content_info() -> &'static Component {
     &CONTENT_INFO_TYPE
 }
 
-/// Its types, in the order of their numbers.
+/// The types of this module, in the order of their numbers.
 pub(crate) fn types() -> [&'static Component; 11] {
     [
         content_info(),

@@ -211,7 +211,7 @@ pub(crate) const EXTENSION_LIST: Inside = Inside::Each(&field!("" EXTENSION));
 /// Extensions.
 pub(crate) const EXTENSIONS: Type = tagged!(Universal 16 Constructed EXTENSION_LIST);
 
-/// Its types, in the order of their numbers.
+/// The types of this module, in the order of their numbers.
 pub(crate) fn types() -> [&'static Component; 8] {
     [
         extension(),

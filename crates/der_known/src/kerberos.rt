@@ -48,6 +48,13 @@ fn ticket() -> &'static Component {
     &TICKET_TYPE
 }
 
+/// A Ticket that nothing is around, so that its type names it.
+static TICKET_ALONE_TYPE: Component = field!("ticket" TICKET);
+
+fn ticket_alone() -> &'static Component {
+    &TICKET_ALONE_TYPE
+}
+
 /// An AP-REQ (RFC 4120 5.5.1).
 static AP_REQUEST_TYPE: Component = field!("ap-req" explicit!(Application 14 field!("" sequence![
     field!("pvno" explicit!(0 field!("" INTEGER))),
@@ -61,7 +68,7 @@ fn ap_request() -> &'static Component {
     &AP_REQUEST_TYPE
 }
 
-/// What the value of a PA-DATA is, by the content octets of its padata-type (RFC 4120 5.2.7).
+/// The value of a PA-DATA, by the content octets of its padata-type (RFC 4120 5.2.7).
 const PREAUTHENTICATION: &[Selection] = &[
     selection!(b"\x01" field!("pa-tgs-req" AP_REQUEST)),
     selection!(b"\x02" field!("pa-enc-timestamp" ENCRYPTED)),
@@ -126,7 +133,7 @@ fn kdc_reply() -> &'static Component {
     &KDC_REPLY_TYPE
 }
 
-/// A request of a ticket for tickets (RFC 4120 5.4.1).
+/// An AS-REQ: a request for a ticket-granting ticket (RFC 4120 5.4.1).
 static AS_REQUEST_TYPE: Component =
     field!("as-req" explicit!(Application 10 field!("" KDC_REQUEST)));
 
@@ -134,14 +141,14 @@ fn as_request() -> &'static Component {
     &AS_REQUEST_TYPE
 }
 
-/// The reply to that (RFC 4120 5.4.2).
+/// An AS-REP: the reply to an AS-REQ (RFC 4120 5.4.2).
 static AS_REPLY_TYPE: Component = field!("as-rep" explicit!(Application 11 field!("" KDC_REPLY)));
 
 fn as_reply() -> &'static Component {
     &AS_REPLY_TYPE
 }
 
-/// A request of a ticket (RFC 4120 5.4.1).
+/// A TGS-REQ: a request for a ticket (RFC 4120 5.4.1).
 static TGS_REQUEST_TYPE: Component =
     field!("tgs-req" explicit!(Application 12 field!("" KDC_REQUEST)));
 
@@ -149,14 +156,14 @@ fn tgs_request() -> &'static Component {
     &TGS_REQUEST_TYPE
 }
 
-/// The reply to that (RFC 4120 5.4.2).
+/// A TGS-REP: the reply to a TGS-REQ (RFC 4120 5.4.2).
 static TGS_REPLY_TYPE: Component = field!("tgs-rep" explicit!(Application 13 field!("" KDC_REPLY)));
 
 fn tgs_reply() -> &'static Component {
     &TGS_REPLY_TYPE
 }
 
-/// The reply to an AP-REQ (RFC 4120 5.5.2).
+/// An AP-REP: the reply to an AP-REQ (RFC 4120 5.5.2).
 static AP_REPLY_TYPE: Component = field!("ap-rep" explicit!(Application 15 field!("" sequence![
     field!("pvno" explicit!(0 field!("" INTEGER))),
     field!("msg-type" explicit!(1 field!("" INTEGER))),
@@ -177,7 +184,7 @@ const SAFE_BODY: Type = sequence![
     optional!("r-address" explicit!(5 field!("" HOST_ADDRESS))),
 ];
 
-/// A message with a checksum (RFC 4120 5.6.1).
+/// A KRB-SAFE: a message with a checksum (RFC 4120 5.6.1).
 static KRB_SAFE_TYPE: Component = field!("krb-safe" explicit!(Application 20 field!("" sequence![
     field!("pvno" explicit!(0 field!("" INTEGER))),
     field!("msg-type" explicit!(1 field!("" INTEGER))),
@@ -192,7 +199,7 @@ fn krb_safe() -> &'static Component {
     &KRB_SAFE_TYPE
 }
 
-/// An encrypted message (RFC 4120 5.7.1). It has no component with the tag `[2]`.
+/// A KRB-PRIV: an encrypted message (RFC 4120 5.7.1). No component has the tag `[2]`.
 static KRB_PRIVATE_TYPE: Component = field!("krb-priv" explicit!(Application 21 field!("" sequence![
     field!("pvno" explicit!(0 field!("" INTEGER))),
     field!("msg-type" explicit!(1 field!("" INTEGER))),
@@ -203,7 +210,7 @@ fn krb_private() -> &'static Component {
     &KRB_PRIVATE_TYPE
 }
 
-/// A message with tickets (RFC 4120 5.8.1).
+/// A KRB-CRED: a message with tickets (RFC 4120 5.8.1).
 static KRB_CREDENTIALS_TYPE: Component =
     field!("krb-cred" explicit!(Application 22 field!("" sequence![
     field!("pvno" explicit!(0 field!("" INTEGER))),
@@ -216,7 +223,7 @@ fn krb_credentials() -> &'static Component {
     &KRB_CREDENTIALS_TYPE
 }
 
-/// An error (RFC 4120 5.9.1).
+/// A KRB-ERROR: an error (RFC 4120 5.9.1).
 static KRB_ERROR_TYPE: Component = field!("krb-error" explicit!(Application 30 field!("" sequence![
         field!("pvno" explicit!(0 field!("" INTEGER))),
         field!("msg-type" explicit!(1 field!("" INTEGER))),
@@ -237,8 +244,8 @@ fn krb_error() -> &'static Component {
     &KRB_ERROR_TYPE
 }
 
-/// Its types, in the order of their numbers.
-pub(crate) fn types() -> [&'static Component; 16] {
+/// The types of this module, in the order of their numbers.
+pub(crate) fn types() -> [&'static Component; 17] {
     [
         as_request(),
         as_reply(),
@@ -256,5 +263,6 @@ pub(crate) fn types() -> [&'static Component; 16] {
         encrypted(),
         principal(),
         host_address(),
+        ticket_alone(),
     ]
 }

@@ -22,7 +22,7 @@ fn rsa_public_key() -> &'static Component {
     &RSA_PUBLIC_KEY_TYPE
 }
 
-/// What a public key is (RFC 3279 2.3). The point of a curve isn't DER.
+/// The subjectPublicKey, by its algorithm (RFC 3279 2.3). The point of an elliptic curve isn't DER.
 const PUBLIC_KEYS: &[Selection] = &[
     // rsaEncryption, id-RSASSA-PSS, id-RSAES-OAEP
     selection!(b"\x2a\x86\x48\x86\xf7\x0d\x01\x01\x01" field!("rsaPublicKey" RSA_PUBLIC_KEY)),
@@ -82,7 +82,7 @@ fn ec_private_key() -> &'static Component
     &EC_PRIVATE_KEY_TYPE
 }
 
-/// What the private key of a PrivateKeyInfo is (RFC 5958 2, RFC 5915 3, RFC 8410 7).
+/// The privateKey of a PrivateKeyInfo, by its algorithm (RFC 5958 2, RFC 5915 3, RFC 8410 7).
 const PRIVATE_KEYS: &[Selection] = &[
     // rsaEncryption, id-RSASSA-PSS
     selection!(b"\x2a\x86\x48\x86\xf7\x0d\x01\x01\x01" field!("rsaPrivateKey" RSA_PRIVATE_KEY)),
@@ -98,7 +98,7 @@ const PRIVATE_KEYS: &[Selection] = &[
     selection!(b"\x2b\x65\x71" field!("curvePrivateKey" OCTET_STRING => Secret)),
 ];
 
-/// The AlgorithmIdentifier of a PrivateKeyInfo, which says what its key is.
+/// The AlgorithmIdentifier of a PrivateKeyInfo, which selects the type of its key.
 pub(crate) const PRIVATE_KEY_ALGORITHM: Type =
     tagged!(Universal 16 Constructed Inside::Begins(ALGORITHM_COMPONENTS, PRIVATE_KEYS));
 
@@ -127,7 +127,7 @@ fn encrypted_private_key_info() -> &'static Component {
     &ENCRYPTED_PRIVATE_KEY_INFO_TYPE
 }
 
-/// Its types, in the order of their numbers.
+/// The types of this module, in the order of their numbers.
 pub(crate) fn types() -> [&'static Component; 6]
     ensures { HasKeys 2 (all_types result) }
 {

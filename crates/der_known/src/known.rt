@@ -1,4 +1,4 @@
-//! The types that are known, and which of them an input is.
+//! The known types, and the type of an input.
 ghost use Rattle.std.specs.Prelude.{◌≡◌};
 
 use crate::numbered::{
@@ -6,58 +6,60 @@ use crate::numbered::{
     CERTIFICATE_LIST, CERTIFICATION_REQUEST, CONTENT_INFO, COUNT, EC_PRIVATE_KEY,
     ENCRYPTED_PRIVATE_KEY_INFO, KRB_CREDENTIALS, KRB_ERROR, KRB_PRIVATE, KRB_SAFE, LDAP_MESSAGE,
     OCSP_REQUEST, OCSP_RESPONSE, PFX, PRIVATE_KEY_INFO, RSA_PRIVATE_KEY, RSA_PUBLIC_KEY,
-    SNMP_MESSAGE, SNMP_V3_MESSAGE, SUBJECT_PUBLIC_KEY_INFO, TGS_REPLY, TGS_REQUEST, TICKET,
+    SNMP_MESSAGE, SNMP_V3_MESSAGE, SUBJECT_PUBLIC_KEY_INFO, TGS_REPLY, TGS_REQUEST, TICKET_ALONE,
     TIME_STAMP_REQUEST, TIME_STAMP_RESPONSE, types,
 };
+use crate::signs;
 use der_base::rules::Rules;
 use der_schema::schema::{Component, Schema};
-use der_schema::{KnownType, field, first_named, first_of};
+use der_schema::{KnownType, first_named, first_of};
 
-/// A known type: its name in the document that defines it, and its element, which has a name unless its type has one.
+/// A known type: its name in the document that defines it, its index, and its signs. Signs are given only if the
+/// elements alone don't tell the type.
 macro_rules! known {
     ($name:literal $kind:expr) => {
-        known!($name "" $kind)
+        known!($name $kind, &[])
     };
-    ($name:literal $element:literal $kind:expr) => {
-        KnownType { name: $name, components: &[field!($element $kind)] }
+    ($name:literal $kind:expr, $signs:expr) => {
+        KnownType { name: $name, kind: $kind, signs: $signs }
     };
 }
 
-/// The types that are known. Where an input may be of several, the first is the most likely one.
+/// The known types. If an input may have several, the first is the most likely one.
 static KNOWN: [KnownType; 30] = [
     known!("Certificate" CERTIFICATE),
     known!("CertificateList" CERTIFICATE_LIST),
     known!("CertificationRequest" CERTIFICATION_REQUEST),
     known!("PrivateKeyInfo" PRIVATE_KEY_INFO),
-    known!("SubjectPublicKeyInfo" SUBJECT_PUBLIC_KEY_INFO),
-    known!("RSAPrivateKey" RSA_PRIVATE_KEY),
-    known!("ECPrivateKey" EC_PRIVATE_KEY),
-    known!("PFX" PFX),
-    known!("EncryptedPrivateKeyInfo" ENCRYPTED_PRIVATE_KEY_INFO),
-    known!("ContentInfo" CONTENT_INFO),
-    known!("OCSPRequest" OCSP_REQUEST),
-    known!("OCSPResponse" OCSP_RESPONSE),
-    known!("TimeStampReq" TIME_STAMP_REQUEST),
-    known!("TimeStampResp" TIME_STAMP_RESPONSE),
-    known!("Message" SNMP_MESSAGE),
-    known!("SNMPv3Message" SNMP_V3_MESSAGE),
+    known!("SubjectPublicKeyInfo" SUBJECT_PUBLIC_KEY_INFO, signs::SUBJECT_PUBLIC_KEY_INFO),
+    known!("RSAPrivateKey" RSA_PRIVATE_KEY, signs::RSA_PRIVATE_KEY),
+    known!("ECPrivateKey" EC_PRIVATE_KEY, signs::EC_PRIVATE_KEY),
+    known!("PFX" PFX, signs::PFX),
+    known!("EncryptedPrivateKeyInfo" ENCRYPTED_PRIVATE_KEY_INFO, signs::ENCRYPTED_PRIVATE_KEY_INFO),
+    known!("ContentInfo" CONTENT_INFO, signs::CONTENT_INFO),
+    known!("OCSPRequest" OCSP_REQUEST, signs::OCSP_REQUEST),
+    known!("OCSPResponse" OCSP_RESPONSE, signs::OCSP_RESPONSE),
+    known!("TimeStampReq" TIME_STAMP_REQUEST, signs::TIME_STAMP_REQUEST),
+    known!("TimeStampResp" TIME_STAMP_RESPONSE, signs::TIME_STAMP_RESPONSE),
+    known!("Message" SNMP_MESSAGE, signs::SNMP_MESSAGE),
+    known!("SNMPv3Message" SNMP_V3_MESSAGE, signs::SNMP_V3_MESSAGE),
     known!("LDAPMessage" LDAP_MESSAGE),
     known!("AS-REQ" AS_REQUEST),
     known!("AS-REP" AS_REPLY),
     known!("TGS-REQ" TGS_REQUEST),
     known!("TGS-REP" TGS_REPLY),
-    known!("Ticket" "ticket" TICKET),
+    known!("Ticket" TICKET_ALONE),
     known!("AP-REQ" AP_REQUEST),
     known!("AP-REP" AP_REPLY),
     known!("KRB-SAFE" KRB_SAFE),
     known!("KRB-PRIV" KRB_PRIVATE),
     known!("KRB-CRED" KRB_CREDENTIALS),
     known!("KRB-ERROR" KRB_ERROR),
-    known!("RSAPublicKey" RSA_PUBLIC_KEY),
+    known!("RSAPublicKey" RSA_PUBLIC_KEY, signs::RSA_PUBLIC_KEY),
     known!("AttributeCertificate" ATTRIBUTE_CERTIFICATE),
 ];
 
-/// The types that are known, and those that their components refer to by number.
+/// The known types, and the types that their components refer to by number.
 ///
 /// # Examples
 ///
@@ -75,11 +77,11 @@ pub struct KnownTypes {
 }
 
 impl KnownTypes {
-    ghost use Rattle.der_schema.specs.Known.{IsFirstSchema, IsOfType, root_at};
+    ghost use Rattle.der_schema.specs.Known.{IsFirstSchema, IsKnownType};
     ghost use Rattle.der_schema.specs.Meaning.{all_types};
     ghost use Rattle.der_known.specs.Tables.{AreKnown};
 
-    /// All of them.
+    /// All known types.
     pub fn new() -> KnownTypes
         ensures { AreKnown result }
     {
@@ -89,25 +91,25 @@ impl KnownTypes {
         }
     }
 
-    /// The types, each with its name. Where an input may be of several, the first is the most likely one.
+    /// The known types, each with its name. If an input may have several, the first is the most likely one.
     pub fn known(&self) -> &'static [KnownType]
         ensures { result.now ≡ self.now.known.now }
     {
         self.known
     }
 
-    /// The type that has this name in the document that defines it, as `Certificate`.
+    /// The type with this name in the document that defines it, such as `Certificate`.
     pub fn type_named(&self, name: &str) -> Option<Schema<'_>>
         ensures { IsFirstSchema (λ k. k.name.now ≡ name.now) self.now.known.now (all_types self.now.types) result }
     {
         first_named(self.known, &self.types[..], name)
     }
 
-    /// The first type that an input is of: it is elements by these rules, each of them has a name, and no mandatory
-    /// component lacks.
+    /// The first known type that the input has. The input is then valid by these rules, each element has a name, no
+    /// mandatory component is missing, and the signs of the type are there.
     pub fn type_of(&self, input: &[u8], rules: Rules) -> Option<Schema<'_>>
-        ensures { IsFirstSchema (λ k. IsOfType (root_at (all_types self.now.types) k) rules input.now)
-            self.now.known.now (all_types self.now.types) result }
+        ensures { IsFirstSchema (IsKnownType (all_types self.now.types) rules input.now) self.now.known.now
+            (all_types self.now.types) result }
     {
         first_of(self.known, &self.types[..], input, rules)
     }

@@ -164,7 +164,7 @@ fn ldap_message() -> &'static Component {
     &LDAP_MESSAGE_TYPE
 }
 
-/// Its types, in the order of their numbers.
+/// The types of this module, in the order of their numbers.
 pub(crate) fn types() -> [&'static Component; 2] {
     [ldap_message(), filter()]
 }

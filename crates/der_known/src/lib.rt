@@ -1,4 +1,4 @@
-//! Types of X.509, PKCS, CMS, OCSP, SNMP, LDAP and Kerberos as constants, by which der_schema names elements.
+//! Types of X.509, PKCS, CMS, OCSP, SNMP, LDAP and Kerberos as constants, from which der_schema names elements.
 #![tactic(auto)]
 
 mod algorithms;
@@ -16,6 +16,7 @@ mod numbered;
 mod ocsp;
 mod pkcs12;
 mod pkcs7;
+mod signs;
 mod snmp;
 mod time_stamps;
 mod universal;

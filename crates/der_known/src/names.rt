@@ -49,7 +49,7 @@ pub(crate) const ANY_ATTRIBUTE: Type = sequence![
     field!("values" set_of!(field!("value" Type::Any))),
 ];
 
-/// Its types, in the order of their numbers.
+/// The types of this module, in the order of their numbers.
 pub(crate) fn types() -> [&'static Component; 2] {
     [name(), general_name()]
 }

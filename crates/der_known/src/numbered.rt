@@ -1,4 +1,4 @@
-//! The types that others refer to by number.
+//! The types that other types refer to by number.
 ghost use Rattle.der_known.specs.Tables.{HasKeys};
 ghost use Rattle.der_schema.specs.Meaning.{all_types};
 
@@ -124,14 +124,14 @@ pub(crate) const TIME_STAMP_RESPONSE: Type = Type::Numbered(51);
 
 pub(crate) const TIME_STAMP_INFO: Type = Type::Numbered(52);
 
-// Stores of keys.
+// PKCS #12.
 pub(crate) const PFX: Type = Type::Numbered(53);
 
 pub(crate) const AUTHENTICATED_SAFE: Type = Type::Numbered(54);
 
 pub(crate) const SAFE_CONTENTS: Type = Type::Numbered(55);
 
-// The status of certificates.
+// OCSP.
 pub(crate) const OCSP_REQUEST: Type = Type::Numbered(56);
 
 pub(crate) const OCSP_RESPONSE: Type = Type::Numbered(57);
@@ -183,8 +183,10 @@ pub(crate) const PRINCIPAL: Type = Type::Numbered(78);
 
 pub(crate) const HOST_ADDRESS: Type = Type::Numbered(79);
 
-/// How many types there are.
-pub(crate) const COUNT: usize = 80;
+pub(crate) const TICKET_ALONE: Type = Type::Numbered(80);
+
+/// The number of types.
+pub(crate) const COUNT: usize = 81;
 
 /// The types, each at its number.
 pub(crate) fn types() -> [&'static Component; COUNT]
@@ -271,6 +273,7 @@ pub(crate) fn types() -> [&'static Component; COUNT]
         encrypted,
         principal,
         host_address,
+        ticket_alone,
     ] = kerberos::types();
     [
         name,
@@ -353,5 +356,6 @@ pub(crate) fn types() -> [&'static Component; COUNT]
         encrypted,
         principal,
         host_address,
+        ticket_alone,
     ]
 }

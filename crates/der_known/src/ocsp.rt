@@ -1,4 +1,4 @@
-//! The status of certificates (RFC 6960 4).
+//! Requests and responses of OCSP, the status of certificates (RFC 6960 4).
 use crate::algorithms::SIGNATURE;
 use crate::extensions::EXTENSIONS;
 use crate::numbered::{CERTIFICATE, DIGEST_ALGORITHM, GENERAL_NAME, NAME, SIGNATURE_ALGORITHM};
@@ -43,7 +43,7 @@ const RESPONSE_DATA: Type = sequence![
     optional!("responseExtensions" explicit!(1 field!("" EXTENSIONS))),
 ];
 
-/// What a response is (RFC 6960 4.2.1).
+/// The response, by its type (RFC 6960 4.2.1).
 const RESPONSES: &[Selection] = &[
     // id-pkix-ocsp-basic
     selection!(b"\x2b\x06\x01\x05\x05\x07\x30\x01\x01" field!("basicOCSPResponse" sequence![
@@ -54,7 +54,7 @@ const RESPONSES: &[Selection] = &[
     ])),
 ];
 
-/// A request of the status of certificates (RFC 6960 4.1.1).
+/// An OCSPRequest: a request for the status of certificates (RFC 6960 4.1.1).
 static OCSP_REQUEST_TYPE: Component = field!("ocspRequest" sequence![
     field!("tbsRequest" sequence![
             optional!("version" explicit!(0 field!("" INTEGER))),
@@ -76,7 +76,7 @@ fn ocsp_request() -> &'static Component {
     &OCSP_REQUEST_TYPE
 }
 
-/// The status of certificates (RFC 6960 4.2.1).
+/// An OCSPResponse: the status of certificates (RFC 6960 4.2.1).
 static OCSP_RESPONSE_TYPE: Component = field!("ocspResponse" sequence![
     field!("responseStatus" ENUMERATED),
     optional!("responseBytes" explicit!(0 field!("" sequence![
@@ -89,7 +89,7 @@ fn ocsp_response() -> &'static Component {
     &OCSP_RESPONSE_TYPE
 }
 
-/// Its types, in the order of their numbers.
+/// The types of this module, in the order of their numbers.
 pub(crate) fn types() -> [&'static Component; 2] {
     [ocsp_request(), ocsp_response()]
 }

@@ -1,4 +1,4 @@
-//! Stores of keys and certificates (RFC 7292).
+//! PKCS #12 files, with keys and certificates (RFC 7292).
 use crate::attributes::BAG_ATTRIBUTES;
 use crate::numbered::{
     AUTHENTICATED_SAFE, CERTIFICATE, CERTIFICATE_LIST, DIGEST_ALGORITHM, ENCRYPTED_DATA,
@@ -8,25 +8,25 @@ use crate::universal::{IA5_STRING, INTEGER, OBJECT_IDENTIFIER, OCTET_STRING};
 use der_schema::schema::{Component, Inside, Selection, Type};
 use der_schema::{explicit, field, optional, selection, sequence, sequence_of, string, tagged};
 
-/// A certificate or list in an OCTET STRING.
+/// A certificate or CRL in an OCTET STRING.
 const HELD_CERTIFICATE: Type = string!(4 Inside::Holds(&[field!("" CERTIFICATE)]));
 
 const HELD_LIST: Type = string!(4 Inside::Holds(&[field!("" CERTIFICATE_LIST)]));
 
-/// What a bag of a certificate has (RFC 7292 4.2.3).
+/// The value of a CertBag, by its type (RFC 7292 4.2.3).
 const CERTIFICATES: &[Selection] = &[
     // x509Certificate, sdsiCertificate
     selection!(b"\x2a\x86\x48\x86\xf7\x0d\x01\x09\x16\x01" field!("x509Certificate" HELD_CERTIFICATE)),
     selection!(b"\x2a\x86\x48\x86\xf7\x0d\x01\x09\x16\x02" field!("sdsiCertificate" IA5_STRING)),
 ];
 
-/// What a bag of a list has (RFC 7292 4.2.4).
+/// The value of a CRLBag, by its type (RFC 7292 4.2.4).
 const LISTS: &[Selection] = &[
     // x509CRL
     selection!(b"\x2a\x86\x48\x86\xf7\x0d\x01\x09\x17\x01" field!("x509CRL" HELD_LIST)),
 ];
 
-/// The values of bags (RFC 7292 4.2, D).
+/// The values of bags, by their type (RFC 7292 4.2, D).
 const BAGS: &[Selection] = &[
     selection!(b"\x2a\x86\x48\x86\xf7\x0d\x01\x0c\x0a\x01\x01" field!("keyBag" PRIVATE_KEY_INFO)),
     selection!(b"\x2a\x86\x48\x86\xf7\x0d\x01\x0c\x0a\x01\x02" field!("pkcs8ShroudedKeyBag"
@@ -58,7 +58,7 @@ fn safe_contents() -> &'static Component {
     &SAFE_CONTENTS_TYPE
 }
 
-/// What is in an AuthenticatedSafe (RFC 7292 4.1).
+/// The content of a ContentInfo in an AuthenticatedSafe, by its type (RFC 7292 4.1).
 const SAFES: &[Selection] = &[
     // id-data, id-envelopedData, id-encryptedData
     selection!(b"\x2a\x86\x48\x86\xf7\x0d\x01\x07\x01" field!("data" string!(4 Inside::Holds(&[
@@ -78,8 +78,9 @@ fn authenticated_safe() -> &'static Component {
     &AUTHENTICATED_SAFE_TYPE
 }
 
-/// What the authSafe of a store is (RFC 7292 4). The content that is signed may have private keys, and no type here.
-const STORES: &[Selection] = &[
+/// The content of the authSafe of a PFX, by its type (RFC 7292 4). Signed content may contain private keys, and no type
+/// here says where, so all of it is secret.
+pub(crate) const STORES: &[Selection] = &[
     // id-signedData, id-data
     selection!(b"\x2a\x86\x48\x86\xf7\x0d\x01\x07\x02" field!("signedData" SIGNED_DATA => Secret)),
     selection!(b"\x2a\x86\x48\x86\xf7\x0d\x01\x07\x01" field!("data" string!(4 Inside::Holds(&[
@@ -87,7 +88,7 @@ const STORES: &[Selection] = &[
     ])) => SecretUnread)),
 ];
 
-/// A store of keys and certificates (RFC 7292 4).
+/// A PFX: keys and certificates (RFC 7292 4).
 static PFX_TYPE: Component = field!("pfx" sequence![
     field!("version" INTEGER),
     field!("authSafe" sequence![
@@ -108,7 +109,7 @@ fn pfx() -> &'static Component {
     &PFX_TYPE
 }
 
-/// Its types, in the order of their numbers.
+/// The types of this module, in the order of their numbers.
 pub(crate) fn types() -> [&'static Component; 3] {
     [pfx(), authenticated_safe(), safe_contents()]
 }

@@ -1,4 +1,4 @@
-//! Messages of PKCS #7 that CMS hasn't (RFC 2315).
+//! Messages of PKCS #7 that CMS doesn't have (RFC 2315).
 use crate::attributes::ATTRIBUTES;
 use crate::cms::{CERTIFICATES, ENCRYPTED_CONTENT, ISSUER_AND_SERIAL};
 use crate::numbered::{ALGORITHM, CERTIFICATE_LIST, DIGEST_ALGORITHM};
@@ -42,7 +42,7 @@ fn signed_and_enveloped_data() -> &'static Component {
     &SIGNED_AND_ENVELOPED_DATA_TYPE
 }
 
-/// Its types, in the order of their numbers.
+/// The types of this module, in the order of their numbers.
 pub(crate) fn types() -> [&'static Component; 1] {
     [signed_and_enveloped_data()]
 }

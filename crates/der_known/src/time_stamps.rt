@@ -34,7 +34,7 @@ fn time_stamp_info() -> &'static Component {
     &TIME_STAMP_INFO_TYPE
 }
 
-/// A request of a time stamp (RFC 3161 2.4.1).
+/// A TimeStampReq: a request for a time stamp (RFC 3161 2.4.1).
 static TIME_STAMP_REQUEST_TYPE: Component = field!("timeStampReq" sequence![
     field!("version" INTEGER),
     field!("messageImprint" MESSAGE_IMPRINT),
@@ -48,7 +48,7 @@ fn time_stamp_request() -> &'static Component {
     &TIME_STAMP_REQUEST_TYPE
 }
 
-/// A response with a time stamp (RFC 3161 2.4.2).
+/// A TimeStampResp: a response with a time stamp (RFC 3161 2.4.2).
 static TIME_STAMP_RESPONSE_TYPE: Component = field!("timeStampResp" sequence![
     field!("status" sequence![
             field!("status" INTEGER),
@@ -62,7 +62,7 @@ fn time_stamp_response() -> &'static Component {
     &TIME_STAMP_RESPONSE_TYPE
 }
 
-/// Its types, in the order of their numbers.
+/// The types of this module, in the order of their numbers.
 pub(crate) fn types() -> [&'static Component; 3] {
     [
         time_stamp_request(),

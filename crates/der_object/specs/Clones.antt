@@ -28,7 +28,7 @@ abbrev mutual
   row_headers end_of-BerObject = []
   row_headers (more_of-BerObject h x rest) = (h ∷ inner_headers x) ++ row_headers rest
 
--- and the object's own
+-- the header of an object, and those inside
 abbrev pub headers_of : BerObject → List Header
 headers_of o = o.header ∷ inner_headers o.content
 
@@ -36,7 +36,7 @@ abbrev pub all_headers : List BerObject → List Header
 all_headers [] = []
 all_headers (o ∷ os) = headers_of o ++ all_headers os
 
--- an equal object, with the same headers: their lengths and raw tags too
+-- an equal object whose headers are the same, with their lengths and raw tags
 pub record IsCopyOf (o copy : BerObject) : Type 0 where
   pub tree : tree copy ≡ tree o
   pub headers : headers_of copy ≡ headers_of o
@@ -45,11 +45,11 @@ pub record IsContentCopyOf (x copy : BerObjectContent) : Type 0 where
   pub content : content_tree copy ≡ content_tree x
   pub headers : inner_headers copy ≡ inner_headers x
 
--- one after another
+-- copies of objects, one by one
 pub record AreCopiesOf (os copies : List BerObject) : Type 0 where
   pub list : trees copies ≡ trees os
   pub headers : all_headers copies ≡ all_headers os
 
--- a copy of the content takes memory: a list has items, an object is inside, or an identifier owns its octets
+-- a copy of the content allocates: a list has items, an object is inside, or an identifier owns its octets
 abbrev pub CopyTakesMemory : BerObjectContent → Type 0
 CopyTakesMemory x = (items_of x ≢ []) ⊎ (inner_object x ≢ None) ⊎ OwnsIdentifier x

@@ -1,4 +1,4 @@
--- The octets of a header and of what stands under a tag, as they are written (X.690 8.1, 8.14).
+-- The octets of a header and of an object under a tag, as they are written (X.690 8.1, 8.14).
 use Rattle.std.specs.Prelude.{ℕ, true, List, [], ◌∷◌, ◌++◌}
 use Rattle.der_base.specs.declared.header.Class.{Class}
 use Rattle.der_base.specs.declared.header.Header.{Header}
@@ -9,12 +9,12 @@ use Rattle.der_base.specs.Header.{class_of, is_constructed, number_of, length_of
 use Rattle.der_base.specs.Octets.{identifier, shortest_length}
 use Rattle.der_base.specs.Tree.{Node, node}
 
--- the fewest length octets, or the octet of the indefinite form (8.1.3.6)
+-- the fewest length octets, or the octet of an indefinite length (8.1.3.6)
 abbrev pub length_octets : Length → List ℕ
 length_octets (Definite n) = shortest_length n
 length_octets Indefinite = 128 ∷ []
 
--- a header with the length that it says
+-- a header with its own length
 abbrev pub header_octets : Header → List ℕ
 header_octets h = identifier (class_of h) (is_constructed h) (number_of h) ++ length_octets (length_of h)
 

@@ -1,4 +1,4 @@
--- What the headers of an object say beside its tree: their raw tags and lengths.
+-- What the headers of an object have beside its tree: their raw tags and lengths.
 use Rattle.std.specs.Prelude.{◌≡◌, Some, List, [], ◌∷◌, length}
 use Rattle.der_base.specs.declared.header.Header.{Header}
 use Rattle.der_base.specs.declared.header.Length.TheVariants.{Definite}
@@ -39,7 +39,7 @@ forms_of [] = no_forms
 forms_of (o ∷ os) = forms (form_of o) (forms_of os)
 
 abbrev mutual
-  -- The fact holds of the header and content of each item, and of an object inside a tagged or optional one, at any
+  -- The fact holds for the header and content of each item, and of an object inside a tagged or optional one, at any
   -- depth.
   pub EachInside : (Header → BerObjectContent → Type 0) → BerObjectContent → Type 0
   EachInside P (Sequence' shape row) = EachInRow P row
@@ -56,7 +56,7 @@ abbrev mutual
   EachInRow P end_of-BerObject = Unit {0}
   EachInRow P (more_of-BerObject h x rest) = P h x × EachInside P x × EachInRow P rest
 
--- and of the object's own
+-- the fact holds for the object's own header and content, and inside
 abbrev pub EachHeader : (Header → BerObjectContent → Type 0) → BerObject → Type 0
 EachHeader P o = P o.header o.content × EachInside P o.content
 
@@ -74,7 +74,7 @@ pub record HasRawTagAndHeader (h : Header) (x : BerObjectContent) : Type 0 where
   pub raw_tag : HasRawTag h
   pub kept : KeepsHeader h x
 
--- the same, and the length is definite and that of the content octets
+-- the raw tag is there, the content keeps the header, and the length is definite and that of the content octets
 pub record HasDerHeader (h : Header) (x : BerObjectContent) : Type 0 where
   pub raw_tag : HasRawTag h
   pub length : length_of h ≡ Definite (length (content_octets (content_tree x)))
@@ -84,6 +84,6 @@ pub record HasDerHeader (h : Header) (x : BerObjectContent) : Type 0 where
 abbrev pub EachHasRawTagAndHeader : BerObject → Type 0
 EachHasRawTagAndHeader o = EachHeader HasRawTagAndHeader o
 
--- and, as DER spells them, their lengths
+-- an object whose headers all have their raw tags, and their lengths as in DER
 abbrev pub EachHasDerHeader : BerObject → Type 0
 EachHasDerHeader o = EachHeader HasDerHeader o

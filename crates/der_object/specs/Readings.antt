@@ -12,11 +12,11 @@ use Rattle.der_object.specs.View.{tree, content_tree}
 abbrev pub Answer : Type 0
 Answer = Result (Bor (List ℕ) × BerObject) (Refused BerError)
 
--- the tree of the object that was read, and what is left of the input
+-- the tree of the object that was read, and the rest of the input
 abbrev pub value_of : Bor (List ℕ) × BerObject → Node × List ℕ
 value_of x = (tree x.1, x.0.now)
 
--- the same of a reader of contents
+-- the answer of a reader of contents
 abbrev pub ContentAnswer : Type 0
 ContentAnswer = Result (Bor (List ℕ) × BerObjectContent) (Refused BerError)
 

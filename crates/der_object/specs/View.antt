@@ -19,7 +19,7 @@ use Rattle.der_object.specs.declared.object.BerObjectContent.TheVariants.{Graphi
 use Rattle.der_object.specs.declared.object.BerObjectContent.TheVariants.{UniversalString, Sequence', Set', UTCTime}
 use Rattle.der_object.specs.declared.object.BerObjectContent.TheVariants.{GeneralizedTime, Optional', Tagged', Unknown}
 
--- The node of a header and a content. The length and the raw tag of the header are no part of it.
+-- The node of a header and a content. The length and the raw tag of the header aren't part of it.
 abbrev pub node_of : Header → Content → Node
 node_of h x = node (class_of h) (is_constructed h) (number_of h) x
 
@@ -54,7 +54,7 @@ abbrev mutual
   content_tree (Tagged' c t b h x) = tagged c t.0 (node_of h (content_tree x))
   content_tree (Unknown a) = unknown (class_of a.header) (is_constructed a.header) (number_of a.header) a.bytes.now
 
-  -- an object that may be absent
+  -- an optional object
   pub held_tree : Held-BerObjectContent-Optional-0 → Content
   held_tree None' = absent
   held_tree (Some' b h x) = present (node_of h (content_tree x))
@@ -67,7 +67,7 @@ abbrev mutual
 abbrev pub tree : BerObject → Node
 tree o = node_of o.header (content_tree o.content)
 
--- one after another
+-- the trees of objects, in order
 abbrev pub trees : List BerObject → Nodes
 trees os = nodes_of (map tree os)
 

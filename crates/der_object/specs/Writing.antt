@@ -1,4 +1,4 @@
--- Writing through a writer that counts its faults.
+-- Writing through a writer that counts failed writes.
 use Rattle.std.specs.Prelude.{◌≡◌, ℕ, ◌-◌, ◌^◌, ◌<◌, ◌≤◌, ◌↔◌, Bool, true, ◌==◌, ◌&&◌, nat_lt, List, length, take}
 use Rattle.std.specs.Prelude.{Option, Result, Ok, Err, OnOk, OnErr, IfErr, if◌then◌else◌}
 use Rattle.std.specs.Result.{IsErrOf, IsErrAnd}
@@ -8,7 +8,7 @@ use Rattle.der_base.specs.declared.error.GenError.TheVariants.{Io, TooLarge, Out
 use Rattle.der_base.specs.Count.{one_more}
 use Rattle.der_object.specs.declared.writer.FaultWriter.{FaultWriter}
 
--- the writer to which octets are handed on
+-- the inner writer
 abbrev pub inner_of : {W : Type 0} → FaultWriter W → W
 inner_of w = w.inner
 
@@ -16,7 +16,7 @@ inner_of w = w.inner
 abbrev pub faults_of : {W : Type 0} → FaultWriter W → ℕ
 faults_of w = w.faults
 
--- the octets that the writer has taken, by its own `contents`; none are known of a writer that does not tell them
+-- the octets that the inner writer has taken, by its own `contents`; None if it doesn't tell them
 abbrev pub written : {W : Type 0} → (W → Option (List ℕ)) → FaultWriter W → Option (List ℕ)
 written contents w = contents w.inner
 
@@ -25,7 +25,7 @@ abbrev pub is_fault : {E : Type 0} → Result ℕ E → List ℕ → Bool
 is_fault (Ok n) w = (n == 0) && nat_lt 0 (length w)
 is_fault (Err e) w = true
 
--- the number of faults behind a write of these octets with this answer
+-- the number of failed writes after a write of these octets with this answer
 abbrev pub faults_behind : {E : Type 0} → ℕ → Result ℕ E → List ℕ → ℕ
 faults_behind n answer w = if is_fault answer w then one_more n else n
 
@@ -34,14 +34,13 @@ IsIo (Io k) = Unit {0}
 IsIo TooLarge = ⊥
 IsIo OutOfMemory = ⊥
 
--- a front of the octets, and not all of them, was written
+-- a part of the octets from the start was written, but not all
 pub record WroteFront (old new : Option (List ℕ)) (w : List ℕ) : Type 0 where
   pub count : ℕ
   pub short : count < length w
   pub front : Appends old new (take count w)
 
--- Octets were sent: all of them and with no fault, or a front of them and then one fault, which ends it. The fault is
--- told as Io.
+-- Octets were sent: all of them, or a part from the start until a write failed. Then the error is Io.
 pub record Wrote {W : Type 0} (contents : W → Option (List ℕ)) (old new : FaultWriter W)
     (result : Result (Unit {0}) GenError) (w : List ℕ) : Type 0 where
   pub all : OnOk result (Appends (written contents old) (written contents new) w)
@@ -50,14 +49,14 @@ pub record Wrote {W : Type 0} (contents : W → Option (List ℕ)) (old new : Fa
   pub fault : OnErr result (faults_of new ≡ one_more (faults_of old))
   pub io : IfErr result IsIo
 
--- More than 2^64-1 octets are refused, and nothing is touched; others are sent.
+-- More than 2^64-1 octets are an error, and nothing is written. Otherwise the octets are sent.
 pub record Encodes {W : Type 0} (contents : W → Option (List ℕ)) (old new : FaultWriter W)
     (result : Result (Unit {0}) GenError) (w : List ℕ) : Type 0 where
   pub too_large : IsErrOf result TooLarge ↔ (2 ^ 64 ≤ length w)
   pub untouched : 2 ^ 64 ≤ length w → new ≡ old
   pub wrote : length w < 2 ^ 64 → Wrote contents old new result w
 
--- below the greatest count, Io is the answer exactly where a fault was counted
+-- unless the count was at its greatest value, Io is the answer iff a write failed
 abbrev pub IoWhereFaultsRose : {W : Type 0} → FaultWriter W → FaultWriter W → Result (Unit {0}) GenError → Type 0
 IoWhereFaultsRose old new result = faults_of old < 2 ^ 128 - 1
     → (IsErrAnd result IsIo ↔ (faults_of old < faults_of new))

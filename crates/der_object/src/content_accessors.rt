@@ -1,5 +1,5 @@
-//! The parts of an object's content, each by a call that returns BerTypeError for a content of
-//! another type. Only `as_oid_val` allocates.
+//! Accessors of an object's content. Each returns BerTypeError if the content has another type. Only `as_oid_val`
+//! allocates.
 ghost use Rattle.der_base.specs.Oids.{octets_of, is_relative_of};
 ghost use Rattle.der_base.specs.Parts.{AnswersPart, AnswersPartOr, boolean_part, identifier_part};
 ghost use Rattle.der_base.specs.Parts.{bits_part, text_part, octets_part, sequence_part, set_part};
@@ -36,7 +36,7 @@ impl<'a> BerObjectContent<'a> {
         }
     }
 
-    /// The octets of a BIT STRING, the unused bits too (8.6).
+    /// The octets of a BIT STRING, unused bits included (8.6).
     pub fn as_bitstring_ref(&self) -> Result<&BitStringObject<'a>, BerError>
         ensures { AnswersPart (λ w. w.now.bytes.now) (bits_part (content_tree self.now)) result }
     {
@@ -56,8 +56,8 @@ impl<'a> BerObjectContent<'a> {
         }
     }
 
-    /// The text of a character string that is kept as one (8.23, 8.25): not of a BMPString or a
-    /// UniversalString.
+    /// The text of a character string (8.23) or an ObjectDescriptor (8.25). A BMPString and a UniversalString have
+    /// octets instead.
     pub fn as_str(&self) -> Result<&'a str, BerError>
         ensures { AnswersPart (λ s. s.now) (text_part (content_tree self.now)) result }
     {
@@ -111,7 +111,7 @@ impl<'a> BerObjectContent<'a> {
         }
     }
 
-    /// An object that may be absent, where it is there.
+    /// The object in an optional content. None if it is absent.
     pub fn as_optional(&self) -> Result<Option<&BerObject<'a>>, BerError>
         ensures { AnswersOptional self.now result }
     {
@@ -122,7 +122,7 @@ impl<'a> BerObjectContent<'a> {
         }
     }
 
-    /// The class and the number of an explicit tag, and the object inside it (8.14).
+    /// The class and the tag number of an explicit tag, and the object inside it (8.14).
     pub fn as_tagged(&self) -> Result<(Class, Tag, &BerObject<'a>), BerError>
         ensures { AnswersTagged self.now result }
     {
@@ -132,15 +132,15 @@ impl<'a> BerObjectContent<'a> {
         }
     }
 
-    /// The octets of a BIT STRING, as `as_bitstring_ref`.
+    /// The octets of a BIT STRING, like `as_bitstring_ref`.
     pub fn as_bitstring(&self) -> Result<BitStringObject<'a>, BerError>
         ensures { AnswersPart (λ w. w.bytes.now) (bits_part (content_tree self.now)) result }
     {
         Ok(*self.as_bitstring_ref()?)
     }
 
-    /// A copy of an OBJECT IDENTIFIER or a RELATIVE-OID. It allocates only if the identifier
-    /// owns its octets, as one that was made of arcs does.
+    /// A copy of an OBJECT IDENTIFIER or a RELATIVE-OID. It allocates only if the identifier owns its octets. An
+    /// identifier that was made from arcs owns them.
     pub fn as_oid_val(&self, alloc: Global) -> Result<Oid<'a>, Err<BerError>>
         ensures { AnswersPartOr (OwnsIdentifier self.now) (λ x. (is_relative_of x, octets_of x))
             (identifier_part (content_tree self.now)) result }
@@ -170,8 +170,8 @@ impl<'a> BerObject<'a> {
         self.content.as_oid()
     }
 
-    /// A copy of an OBJECT IDENTIFIER or a RELATIVE-OID. It allocates only if the identifier
-    /// owns its octets, as one that was made of arcs does.
+    /// A copy of an OBJECT IDENTIFIER or a RELATIVE-OID. It allocates only if the identifier owns its octets. An
+    /// identifier that was made from arcs owns them.
     pub fn as_oid_val(&self, alloc: Global) -> Result<Oid<'a>, Err<BerError>>
         ensures { AnswersPartOr (OwnsIdentifier self.now.content) (λ x. (is_relative_of x, octets_of x))
             (identifier_part (content_tree self.now.content)) result }
@@ -179,14 +179,14 @@ impl<'a> BerObject<'a> {
         self.content.as_oid_val(alloc)
     }
 
-    /// The octets of a BIT STRING, the unused bits too (8.6).
+    /// The octets of a BIT STRING, unused bits included (8.6).
     pub fn as_bitstring(&self) -> Result<BitStringObject<'a>, BerError>
         ensures { AnswersPart (λ w. w.bytes.now) (bits_part (content_tree self.now.content)) result }
     {
         self.content.as_bitstring()
     }
 
-    /// The octets of a BIT STRING, as `as_bitstring`.
+    /// The octets of a BIT STRING, like `as_bitstring`.
     pub fn as_bitstring_ref(&self) -> Result<&BitStringObject<'a>, BerError>
         ensures { AnswersPart (λ w. w.now.bytes.now) (bits_part (content_tree self.now.content)) result }
     {
@@ -207,14 +207,14 @@ impl<'a> BerObject<'a> {
         self.content.as_set()
     }
 
-    /// An object that may be absent, where it is there.
+    /// The object in an optional content. None if it is absent.
     pub fn as_optional(&self) -> Result<Option<&BerObject<'a>>, BerError>
         ensures { AnswersOptional self.now.content result }
     {
         self.content.as_optional()
     }
 
-    /// The class and the number of an explicit tag, and the object inside it (8.14).
+    /// The class and the tag number of an explicit tag, and the object inside it (8.14).
     pub fn as_tagged(&self) -> Result<(Class, Tag, &BerObject<'a>), BerError>
         ensures { AnswersTagged self.now.content result }
     {
@@ -228,8 +228,8 @@ impl<'a> BerObject<'a> {
         self.content.as_datetime()
     }
 
-    /// The text of a character string that is kept as one (8.23, 8.25): not of a BMPString or a
-    /// UniversalString.
+    /// The text of a character string (8.23) or an ObjectDescriptor (8.25). A BMPString and a UniversalString have
+    /// octets instead.
     pub fn as_str(&self) -> Result<&'a str, BerError>
         ensures { AnswersPart (λ s. s.now) (text_part (content_tree self.now.content)) result }
     {

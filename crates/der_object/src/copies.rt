@@ -1,4 +1,4 @@
-//! Copies of objects. Texts and octets of a copy stay slices of the input.
+//! Copies of objects. The texts and octets of a copy still borrow from the input.
 ghost use Rattle.std.specs.Prelude.{◌≢◌, [], IfOk, MatchResult};
 ghost use Rattle.der_object.specs.Clones.{IsCopyOf, IsContentCopyOf, AreCopiesOf, CopyTakesMemory};
 
@@ -6,9 +6,9 @@ use crate::object::{BerObject, BerObjectContent};
 use std::alloc::{AllocError, Global};
 
 impl<'a> BerObject<'a> {
-    /// A copy: an equal object, whose headers have the same lengths and raw tags. Memory is taken
-    /// for the items of lists, for the objects inside tagged and optional contents, and for
-    /// identifiers that own their octets. Errors: AllocError if there is none.
+    /// Copies an object. The copy is equal, and its headers have the same lengths and raw tags. It allocates for the
+    /// items of lists, for objects inside tagged and optional contents, and for identifiers that own their octets.
+    /// Errors: AllocError if there is no memory.
     #[cycle(copy)]
     pub fn try_clone(&self, alloc: Global) -> Result<BerObject<'a>, AllocError>
         ensures { MatchResult result (IsCopyOf self.now) (λ _. CopyTakesMemory self.now.content) }
@@ -21,8 +21,8 @@ impl<'a> BerObject<'a> {
 }
 
 impl<'a> BerObjectContent<'a> {
-    /// A copy: an equal content, whose headers have the same lengths and raw tags. It takes memory as
-    /// that of an object does.
+    /// Copies a content. The copy is equal, and its headers have the same lengths and raw tags. It allocates like the
+    /// copy of an object.
     #[cycle(copy)]
     pub fn try_clone(&self, alloc: Global) -> Result<BerObjectContent<'a>, AllocError>
         ensures { MatchResult result (IsContentCopyOf self.now) (λ _. CopyTakesMemory self.now) }
@@ -63,7 +63,7 @@ impl<'a> BerObjectContent<'a> {
     }
 }
 
-/// A copy of the object, in a box of its own.
+/// A copy of the object, in its own box.
 #[cycle(copy)]
 fn copy_boxed<'a>(alloc: Global, object: &BerObject<'a>) -> Result<Box<BerObject<'a>>, AllocError>
     ensures { IfOk result (λ b. IsCopyOf object.now b.value) }
@@ -71,7 +71,7 @@ fn copy_boxed<'a>(alloc: Global, object: &BerObject<'a>) -> Result<Box<BerObject
     Ok(Box::new(alloc, object.try_clone(alloc)?)?)
 }
 
-/// Copies of the items, in their order.
+/// Copies of the items, in order.
 #[cycle(copy)]
 fn copy_items<'a>(alloc: Global, items: &[BerObject<'a>]) -> Result<Vec<BerObject<'a>>, AllocError>
     ensures { MatchResult result (λ v. AreCopiesOf items.now v.items) (λ _. items.now ≢ []) }

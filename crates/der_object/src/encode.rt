@@ -1,5 +1,5 @@
-//! The encoder over any writer (X.690 8, in the form of 10). It allocates nothing: the length of an
-//! element is counted first, and small runs of octets are in an array until they are sent.
+//! The encoder for any writer (X.690 8, with the lengths of 10). It doesn't allocate. It counts the length of an
+//! element first, and collects small runs of octets in an array.
 ghost use Rattle.std.specs.Prelude.{◌<◌, ◌≤◌, ◌^◌, ◌∷◌, ◌++◌, length};
 ghost use Rattle.der_base.specs.Encoding.{encoding, encodings, content_octets, element};
 ghost use Rattle.der_base.specs.Header.{class_of, is_constructed, number_of};
@@ -8,7 +8,7 @@ ghost use Rattle.der_base.specs.Time.{text_from_year};
 ghost use Rattle.der_object.specs.Encoders.{header_octets, length_octets, explicit_octets, implicit_octets};
 ghost use Rattle.der_object.specs.View.{tree, content_tree, trees};
 ghost use Rattle.der_object.specs.Writing.{Encodes, IoWhereFaultsRose, Wrote};
-ghost use Rattle.der_octets.specs.Room.{PutsBefore};
+ghost use Rattle.der_values.specs.Octets.Room.{PutsBefore};
 
 use crate::length::{
     content_length, explicit_length, header_length, implicit_length, object_length, raw_length,
@@ -18,21 +18,23 @@ use crate::writer::{FaultWriter, send};
 use der_base::error::GenError;
 use der_base::header::{Class, Header, Length, Tag};
 use der_base::time::ASN1DateTime;
-use der_octets::header::{integer_octet_count, write_identifier, write_integer, write_length};
-use der_octets::octets::write_octet;
-use der_octets::time::{GENERALIZED_YEAR, UTC_YEAR, time_length, write_time};
+use der_values::octets::header::{
+    integer_octet_count, write_identifier, write_integer, write_length,
+};
+use der_values::octets::time::{GENERALIZED_YEAR, UTC_YEAR, time_length, write_time};
+use der_values::octets::write_octet;
 use std::io::Write;
 
-/// The octets that a header has at most: 6 identifier octets and 9 length octets.
+/// The most octets of a header: 6 identifier octets and 9 length octets.
 const HEADER_ROOM: usize = 15;
 
-/// The octets that a number of 64 bits has at most, in two's complement.
+/// The most octets of a 64-bit number in two's complement.
 const INTEGER_ROOM: usize = 9;
 
-/// The octets that the text of a time has at most.
+/// The most octets in the text of a time.
 const TIME_ROOM: usize = 119;
 
-/// Writes a header with the length that it says (8.1.2, 8.1.3). Errors: `Io` if a write failed.
+/// Writes a header with its own length, definite or indefinite (8.1.2, 8.1.3). Errors: `Io` if a write failed.
 pub fn ber_encode_header<W: Write>(
     w: &mut FaultWriter<W>,
     header: &Header<'_>,
@@ -43,10 +45,11 @@ pub fn ber_encode_header<W: Write>(
     send_header(w, header, header.length())
 }
 
-/// Writes an object: its header as DER writes it (8.1.2, 10.1), and its content octets. An absent
-/// optional one has none, and a tagged one is inside an element of the tag. Errors: `TooLarge` for
-/// more than 2^64-1 octets, before any is written; `Io` if a write failed, which is so iff the count of
-/// `faults` of the writer rose, below its greatest value of 2^128-1.
+/// Writes an object: its header as DER has it (8.1.2, 10.1), and its content octets. Nothing is written for an optional
+/// object that is absent. A tagged object is written inside an element with the tag.
+///
+/// Errors: `TooLarge` if there are more than 2^64-1 octets; then nothing is written. `Io` if a write failed. A write
+/// failed iff `faults` of the writer rose, unless it was at its greatest value of 2^128-1.
 ///
 /// ```
 /// let mut out = FaultWriter::new(Vec::<u8>::new(alloc));
@@ -66,7 +69,7 @@ pub fn ber_encode_object<W: Write>(
     send_object(w, o)
 }
 
-/// Writes this header with the length that it has, and then all content octets. Errors: as `ber_encode_object`.
+/// Writes this header with its own length, and then all content octets. Errors: as for `ber_encode_object`.
 pub fn ber_encode_object_raw<W: Write>(
     w: &mut FaultWriter<W>,
     header: &Header<'_>,
@@ -82,7 +85,7 @@ pub fn ber_encode_object_raw<W: Write>(
     send_raw(w, header, content)
 }
 
-/// Writes an object under an explicit tag: an element around it (8.14.2). Errors: as
+/// Writes an object under an explicit tag: inside an element with that tag (8.14.2). Errors: as for
 /// `ber_encode_object`.
 pub fn ber_encode_tagged_explicit<W: Write>(
     w: &mut FaultWriter<W>,
@@ -99,8 +102,8 @@ pub fn ber_encode_tagged_explicit<W: Write>(
     send_tagged(w, class, tag, o)
 }
 
-/// Writes an object under an implicit tag: an element with the object's constructed bit and content
-/// octets (8.14.3). Errors: as `ber_encode_object`.
+/// Writes an object under an implicit tag: as an element with that tag, which has the object's constructed bit and
+/// content octets (8.14.3). Errors: as for `ber_encode_object`.
 pub fn ber_encode_tagged_implicit<W: Write>(
     w: &mut FaultWriter<W>,
     tag: Tag,
@@ -147,7 +150,7 @@ fn send_object<W: Write>(w: &mut FaultWriter<W>, o: &BerObject<'_>) -> Result<()
     }
 }
 
-/// Sends an object in an element of a tag (8.14.2).
+/// Sends an object inside an element with a tag (8.14.2).
 #[cycle(encode)]
 fn send_tagged<W: Write>(
     w: &mut FaultWriter<W>,
@@ -164,7 +167,7 @@ fn send_tagged<W: Write>(
     send_object(w, o)
 }
 
-/// Sends the header of an element with the length of its content, and the content octets.
+/// Sends an element: the header with the length of its content, and the content octets.
 #[cycle(encode)]
 fn send_element<W: Write>(
     w: &mut FaultWriter<W>,
@@ -253,7 +256,7 @@ fn send_header<W: Write>(
     send(w, &room[..end])
 }
 
-/// Writes the octets of a length before an offset, of an indefinite one too (8.1.3.6).
+/// Writes the octets of a definite or indefinite length so that they end at an offset (8.1.3.6).
 fn write_any_length(out: &mut [u8], end: usize, stated: Length) -> usize
     requires room { length (length_octets stated) ≤ end }
     requires within { end ≤ length out.old }
@@ -275,7 +278,7 @@ fn send_integer<W: Write>(w: &mut FaultWriter<W>, n: u64) -> Result<(), GenError
     send(w, &room[..end])
 }
 
-/// Sends the text of a time, with a year of at least so many digits (11.7, 11.8).
+/// Sends the text of a time, with at least this many digits for the year (11.7, 11.8).
 pub fn send_time<W: Write>(
     w: &mut FaultWriter<W>,
     year_digits: usize,

@@ -1,5 +1,4 @@
-//! Equality: objects are equal where their trees are. The length and the raw tag of a header don't
-//! count.
+//! Equality of objects. Two objects are equal if their trees are. The length and the raw tag of a header don't matter.
 ghost use Rattle.std.specs.Prelude.{◌≡◌, ◌↔◌, IsTrue};
 ghost use Rattle.der_base.specs.TreeEquality.{same_node, same_content, same_nodes};
 ghost use Rattle.der_object.specs.declared.object.BerObjectContent.TheVariants.{Optional};
@@ -40,8 +39,7 @@ impl PartialEq for BerObjectContent<'_> {
 }
 
 impl BerObject<'_> {
-    /// Whether the other object is equal, as `==` says for two objects of one lifetime. The other may borrow from
-    /// another input.
+    /// Whether the other object is equal, like `==`. Unlike there, the other object may borrow from another input.
     pub fn is_equal(&self, other: &BerObject<'_>) -> bool
         ensures { IsTrue result ↔ (tree self.now ≡ tree other.now) }
     {
@@ -50,8 +48,7 @@ impl BerObject<'_> {
 }
 
 impl BerObjectContent<'_> {
-    /// Whether the other content is equal, as `==` says for two contents of one lifetime. The other may borrow from
-    /// another input.
+    /// Whether the other content is equal, like `==`. Unlike there, the other content may borrow from another input.
     pub fn is_equal(&self, other: &BerObjectContent<'_>) -> bool
         ensures { IsTrue result ↔ (content_tree self.now ≡ content_tree other.now) }
     {
@@ -114,7 +111,7 @@ fn same_content(a: &BerObjectContent<'_>, b: &BerObjectContent<'_>) -> bool
     }
 }
 
-/// Whether two objects that may be absent both are, or have the same tree.
+/// Whether two optional objects are both absent, or have the same tree.
 #[cycle(equality)]
 fn same_optional(a: &Option<Box<BerObject<'_>>>, b: &Option<Box<BerObject<'_>>>) -> bool
     ensures { result ≡ same_content (content_tree (Optional a.now)) (content_tree (Optional b.now)) }
@@ -126,7 +123,7 @@ fn same_optional(a: &Option<Box<BerObject<'_>>>, b: &Option<Box<BerObject<'_>>>)
     }
 }
 
-/// Whether two lists have the same trees, one after another.
+/// Whether two lists have the same trees in the same order.
 #[cycle(equality)]
 #[tactic(auto, using(crate::proofs::Trees::trees_end, crate::proofs::Trees::other_length))]
 fn same_items(a: &[BerObject<'_>], b: &[BerObject<'_>]) -> bool

@@ -1,4 +1,4 @@
-//! The accessors and asserts of an object's header, on the object.
+//! Accessors and asserts of an object's header.
 ghost use Rattle.std.specs.Prelude.{◌≡◌, ◌≢◌, ◌↔◌, false, true, IsTrue, MatchResult, Some};
 ghost use Rattle.der_base.specs.Header.{class_of, is_constructed, number_of, length_of};
 ghost use Rattle.der_base.specs.Refusal.{refusal, construct_expected, construct_unexpected};
@@ -58,21 +58,21 @@ impl BerObject<'_> {
         self.header.is_private()
     }
 
-    /// Whether the header says that the content is a value, and not made of elements.
+    /// Whether the content is a value rather than elements.
     pub fn is_primitive(&self) -> bool
         ensures { IsTrue result ↔ (is_constructed self.now.header ≡ false) }
     {
         self.header.is_primitive()
     }
 
-    /// Whether the header says that the content is made of elements.
+    /// Whether the content is elements.
     pub fn is_constructed(&self) -> bool
         ensures { IsTrue result ↔ (is_constructed self.now.header ≡ true) }
     {
         self.header.is_constructed()
     }
 
-    /// Ok where the class is this one, UnexpectedClass otherwise.
+    /// Ok if the class is this one, else UnexpectedClass.
     pub fn assert_class(&self, class: Class) -> Result<(), BerError>
         ensures { let c = class_of self.now.header in MatchResult result
             (λ _. c ≡ class)
@@ -81,7 +81,7 @@ impl BerObject<'_> {
         self.header.assert_class(class)
     }
 
-    /// Ok where the tag number is this one, UnexpectedTag otherwise.
+    /// Ok if the tag number is this one, else UnexpectedTag.
     pub fn assert_tag(&self, tag: Tag) -> Result<(), BerError>
         ensures { let n = number_of self.now.header in MatchResult result
             (λ _. n ≡ tag.0)
@@ -90,7 +90,7 @@ impl BerObject<'_> {
         self.header.assert_tag(tag)
     }
 
-    /// Ok where the header says that the content is made of elements, ConstructExpected otherwise.
+    /// Ok if the element is constructed, else ConstructExpected.
     pub fn assert_constructed(&self) -> Result<(), BerError>
         ensures { let p = is_constructed self.now.header in MatchResult result
             (λ _. p ≡ true)
@@ -99,7 +99,7 @@ impl BerObject<'_> {
         self.header.assert_constructed()
     }
 
-    /// Ok where the header says that the content is a value, ConstructUnexpected otherwise.
+    /// Ok if the element is primitive, else ConstructUnexpected.
     pub fn assert_primitive(&self) -> Result<(), BerError>
         ensures { let p = is_constructed self.now.header in MatchResult result
             (λ _. p ≡ false)

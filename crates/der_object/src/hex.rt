@@ -1,21 +1,21 @@
-//! Octets in hexadecimal text.
+//! Octets in hexadecimal.
 ghost use Rattle.std.specs.Prelude.{◌≡◌, ◌≤◌, ◌<◌, ◌*◌, ◌∷◌, length};
 ghost use Rattle.der_base.specs.Pretty.{hex, hex_digit, hex_pair, spaced_hex};
 ghost use Rattle.der_object.specs.Writing.{Wrote};
-ghost use Rattle.der_octets.specs.Room.{PutsBefore};
+ghost use Rattle.der_values.specs.Octets.Room.{PutsBefore};
 
 use crate::writer::{FaultWriter, send};
 use der_base::error::GenError;
-use der_octets::octets::write_octets;
+use der_values::octets::write_octets;
 use std::io::Write;
 
-/// So many octets are sent at once.
+/// The number of octets that are sent at once.
 const MANY: usize = 64;
 
-/// The room that the text of so many takes, with a space before each.
+/// The number of characters for these octets, with a space before each.
 const ROOM: usize = 192;
 
-/// Sends octets as hexadecimal numbers of two digits, in brackets, with a space between them.
+/// Sends octets in brackets, each as two hexadecimal digits, with spaces between them.
 pub fn send_hex<W: Write>(w: &mut FaultWriter<W>, octets: &[u8]) -> Result<(), GenError>
     ensures { Wrote W.contents w.old w.new result (hex octets.now) }
 {
@@ -27,7 +27,7 @@ pub fn send_hex<W: Write>(w: &mut FaultWriter<W>, octets: &[u8]) -> Result<(), G
     send(w, b"]")
 }
 
-/// Sends octets, each with a space in front.
+/// Sends octets, each after a space.
 fn send_spaced<W: Write>(w: &mut FaultWriter<W>, octets: &[u8]) -> Result<(), GenError>
     ensures { Wrote W.contents w.old w.new result (spaced_hex octets.now) }
 {
@@ -39,7 +39,7 @@ fn send_spaced<W: Write>(w: &mut FaultWriter<W>, octets: &[u8]) -> Result<(), Ge
     send_some(w, rest)
 }
 
-/// Sends octets that have room, each with a space in front.
+/// Sends at most `MANY` octets, each after a space.
 fn send_some<W: Write>(w: &mut FaultWriter<W>, octets: &[u8]) -> Result<(), GenError>
     requires { length octets.now ≤ 64 }
     ensures { Wrote W.contents w.old w.new result (spaced_hex octets.now) }
@@ -49,7 +49,7 @@ fn send_some<W: Write>(w: &mut FaultWriter<W>, octets: &[u8]) -> Result<(), GenE
     send(w, &room[begin..])
 }
 
-/// Writes octets before an offset, each after a space.
+/// Writes octets so that they end at an offset, each after a space.
 fn write_spaced(out: &mut [u8], end: usize, octets: &[u8]) -> usize
     requires room { 3 * length octets.now ≤ end }
     requires within { end ≤ length out.old }
@@ -62,7 +62,7 @@ fn write_spaced(out: &mut [u8], end: usize, octets: &[u8]) -> usize
     begin
 }
 
-/// Writes the two digits of an octet before an offset, and a space before them.
+/// Writes a space and the two digits of an octet so that they end at an offset.
 #[inline]
 fn write_pair(out: &mut [u8], end: usize, octet: u8) -> usize
     requires room { 3 ≤ end }

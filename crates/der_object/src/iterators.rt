@@ -1,5 +1,4 @@
-//! The items of an object: one by one, by reference or by value, and by their index. None of these
-//! calls takes memory.
+//! The items of an object: by reference, by value, or by index. None of these calls allocates.
 ghost use Rattle.std.specs.Prelude.{◌≡◌};
 ghost use Rattle.std.specs.Iterator.{YieldsFirst, YieldsFirstRef, item_count};
 ghost use Rattle.der_object.specs.Items.{items_of, moved_items, items_left, items_to_move};
@@ -8,15 +7,14 @@ use crate::object::{BerObject, BerObjectContent};
 use std::ops::Index;
 use std::{mem, slice, vec};
 
-/// The items of an object by reference, in their order.
+/// An iterator over references to the items of an object, in order.
 #[derive(Debug, Drop)]
 pub struct BerObjectRefIterator<'r, 'a> {
     items: slice::Iter<'r, BerObject<'a>>,
 }
 
 impl<'a> BerObject<'a> {
-    /// The items of a SEQUENCE or SET in their order, by reference. An object of another type has
-    /// none.
+    /// References to the items of a SEQUENCE or SET, in order. An object of another type has none.
     pub fn ref_iter<'r>(&'r self) -> BerObjectRefIterator<'r, 'a>
         ensures { items_left result ≡ items_of self.now.content }
     {
@@ -27,7 +25,7 @@ impl<'a> BerObject<'a> {
 }
 
 impl<'a> BerObjectContent<'a> {
-    /// The items of a SEQUENCE or SET, and none of another content.
+    /// The items of a SEQUENCE or SET. Another content has none.
     #[tactic(auto, using(crate::proofs::ItemLists::of_sequence, crate::proofs::ItemLists::of_set))]
     fn items(&self) -> &[BerObject<'a>]
         ensures { result.now ≡ items_of self.now }
@@ -51,7 +49,7 @@ impl<'r, 'a> Iterator for BerObjectRefIterator<'r, 'a> {
     }
 }
 
-/// The objects that an object is moved into.
+/// An iterator over the objects into which an object is moved.
 #[derive(Debug, Drop)]
 pub struct BerObjectIntoIterator<'a> {
     left: Left<'a>,
@@ -64,8 +62,7 @@ enum Left<'a> {
     Nothing,
 }
 
-/// The items of a SEQUENCE or SET in their order, by value. An object of another type gives itself,
-/// once.
+/// The items of a SEQUENCE or SET by value, in order. An object of another type gives itself, once.
 impl<'a> IntoIterator for BerObject<'a> {
     type Item = BerObject<'a>;
 
@@ -103,7 +100,7 @@ impl<'a> Iterator for BerObjectIntoIterator<'a> {
     }
 }
 
-/// An item of a SEQUENCE or SET, by its place. The caller sees to it that there is one.
+/// The item of a SEQUENCE or SET at an index. The caller has to know that there is one.
 impl<'a> Index<usize> for BerObject<'a> {
     ghost use Rattle.der_object.specs.Items.{HasItem, IsItem};
 

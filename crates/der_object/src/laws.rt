@@ -9,8 +9,8 @@ use crate::bit_string::BitStringObject;
 use crate::object::{BerObject, BerObjectContent};
 use crate::print::PrettyPrinterFlag;
 
-/// Objects are equal exactly where their trees are the same, and so are contents. So equality of
-/// them is an equivalence.
+/// Two objects are equal iff their trees are the same, and so are two contents. So their equality is an equivalence
+/// relation.
 pub fn equals_have_one_tree()
     ensures object { EqualsAre HaveOneTree ⟦<BerObject<'static> as PartialEq>⟧.eq }
     ensures content { EqualsAre HaveOneContentTree ⟦<BerObjectContent<'static> as PartialEq>⟧.eq }
@@ -18,8 +18,8 @@ pub fn equals_have_one_tree()
     ensures contents { IsEquivalence ⟦<BerObjectContent<'static> as PartialEq>⟧.eq }
 {}
 
-/// A clone of a bit string's octets or of a printer's flag is the value itself and never runs out of memory.
-/// Such octets are equal exactly where they are alike, and flags where they are the same.
+/// A clone of a `BitStringObject` or of a `PrettyPrinterFlag` is the value itself, and never fails. Bit strings are
+/// equal iff their octets are alike, and flags iff they are the same.
 pub fn small_clones_are_the_value()
     ensures bits { AreTheValue ⟦<BitStringObject<'static> as Clone>⟧.is_clone }
     ensures bits_memory { AlwaysSo ⟦<BitStringObject<'static> as Clone>⟧.is_infallible }

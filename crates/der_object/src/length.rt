@@ -1,4 +1,4 @@
-//! How many octets an object has, counted before any is written.
+//! The size of an object in octets, which is counted before anything is written.
 ghost use Rattle.std.specs.Prelude.{◌≡◌, ◌+◌, ◌<◌, ◌≤◌, ◌^◌, ◌++◌, Bool, length};
 ghost use Rattle.std.specs.Option.{SomeIff};
 ghost use Rattle.der_base.specs.declared.header.Class.{Class};
@@ -10,10 +10,10 @@ ghost use Rattle.der_object.specs.View.{tree, content_tree, trees};
 
 use crate::object::{BerObject, BerObjectContent};
 use der_base::header::{Header, Length, Tag};
-use der_octets::header::{identifier_octet_count, integer_octet_count, length_octet_count};
-use der_octets::time::{GENERALIZED_YEAR, UTC_YEAR, time_length};
+use der_values::octets::header::{identifier_octet_count, integer_octet_count, length_octet_count};
+use der_values::octets::time::{GENERALIZED_YEAR, UTC_YEAR, time_length};
 
-/// How many octets an object has, if at most 2^64-1.
+/// The number of octets of an object, if it is at most 2^64-1.
 #[cycle(length)]
 pub fn object_length(o: &BerObject<'_>) -> Option<usize>
     ensures { SomeIff result (length (encoding (tree o.now)) < 2 ^ 64) (length (encoding (tree o.now))) }
@@ -28,7 +28,7 @@ pub fn object_length(o: &BerObject<'_>) -> Option<usize>
     }
 }
 
-/// How many content octets there are, if at most 2^64-1.
+/// The number of content octets, if it is at most 2^64-1.
 #[cycle(length)]
 #[tactic(auto, using(crate::proofs::Trees::sequence_tree, crate::proofs::Trees::set_tree))]
 pub fn content_length(content: &BerObjectContent<'_>) -> Option<usize>
@@ -52,7 +52,7 @@ pub fn content_length(content: &BerObjectContent<'_>) -> Option<usize>
     }
 }
 
-/// How many octets objects have together, if at most 2^64-1.
+/// The number of octets of all these objects, if it is at most 2^64-1.
 #[cycle(length)]
 #[tactic(auto, using(crate::proofs::Trees::trees_end))]
 fn items_length(items: &[BerObject<'_>]) -> Option<usize>
@@ -66,7 +66,7 @@ fn items_length(items: &[BerObject<'_>]) -> Option<usize>
     Some(total)
 }
 
-/// How many octets an object has under an explicit tag, if at most 2^64-1 (8.14.2).
+/// The number of octets of an object under an explicit tag, if it is at most 2^64-1 (8.14.2).
 pub fn explicit_length(tag: Tag, o: &BerObject<'_>) -> Option<usize>
     ensures { (c : Class) → let n = length (explicit_octets c tag.0 (tree o.now)) in
         SomeIff result (n < 2 ^ 64) n }
@@ -74,7 +74,7 @@ pub fn explicit_length(tag: Tag, o: &BerObject<'_>) -> Option<usize>
     element_length(tag, object_length(o)?)
 }
 
-/// How many octets an object has under an implicit tag, if at most 2^64-1 (8.14.3).
+/// The number of octets of an object under an implicit tag, if it is at most 2^64-1 (8.14.3).
 pub fn implicit_length(tag: Tag, o: &BerObject<'_>) -> Option<usize>
     ensures { (c : Class) → let n = length (implicit_octets c tag.0 (tree o.now)) in
         SomeIff result (n < 2 ^ 64) n }
@@ -82,8 +82,7 @@ pub fn implicit_length(tag: Tag, o: &BerObject<'_>) -> Option<usize>
     element_length(tag, content_length(&o.content)?)
 }
 
-/// How many octets a header has with its own length and the content octets after it have, if at most
-/// 2^64-1.
+/// The number of octets of a header with its own length and of the content octets after it, if it is at most 2^64-1.
 pub fn raw_length(header: &Header<'_>, content: &BerObjectContent<'_>) -> Option<usize>
     ensures { let n = length (header_octets header.now ++ content_octets (content_tree content.now)) in
         SomeIff result (n < 2 ^ 64) n }
@@ -91,7 +90,7 @@ pub fn raw_length(header: &Header<'_>, content: &BerObjectContent<'_>) -> Option
     header_length(header, header.length()).checked_add(content_length(content)?)
 }
 
-/// How many octets an element of this tag with n content octets has, if at most 2^64-1.
+/// The number of octets of an element with this tag and n content octets, if it is at most 2^64-1.
 fn element_length(tag: Tag, n: usize) -> Option<usize>
     ensures { (c : Class) (p : Bool) →
         let total = length (identifier c p tag.0) + length (shortest_length n) + n in
@@ -100,7 +99,7 @@ fn element_length(tag: Tag, n: usize) -> Option<usize>
     (identifier_octet_count(tag) + length_octet_count(n)).checked_add(n)
 }
 
-/// How many octets a header has with this length, an indefinite one too (8.1.3.6).
+/// The number of octets of a header with this length, which may be indefinite (8.1.3.6).
 pub fn header_length(header: &Header<'_>, stated: Length) -> usize
     ensures count { let h = header.now in
         let octets = identifier (class_of h) (is_constructed h) (number_of h) in

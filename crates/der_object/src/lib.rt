@@ -1,5 +1,5 @@
-//! Objects: the values that are read and written, their trees, their equality, their encoding, in
-//! memory and over any writer, and their text.
+//! Objects: the values that are read and written. This crate has their trees, their equality, their encoding in memory
+//! and over any writer, and their text.
 #![tactic(auto)]
 
 pub mod bit_string;

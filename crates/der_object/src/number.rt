@@ -1,4 +1,4 @@
-//! Numbers of objects (X.690 8.3, 8.4, 8.6).
+//! Numbers in objects (X.690 8.3, 8.4, 8.6).
 ghost use Rattle.der_base.specs.Numbers.{AnswersSigned, AnswersUnsigned};
 ghost use Rattle.der_object.specs.View.{content_tree};
 
@@ -7,8 +7,8 @@ use der_base::error::BerError;
 use der_base::integer::{read_i32, read_i64, read_u64, read_used_bits};
 
 impl BerObjectContent<'_> {
-    /// The number of an INTEGER, in two's complement; that of no octets is 0. Errors: IntegerTooLarge if
-    /// it isn't from -2^63 to 2^63-1, BerValueError for another content.
+    /// The number of an INTEGER. If it has no octets, its number is 0. Errors: IntegerTooLarge if it isn't from -2^63
+    /// to 2^63-1, BerValueError for another content.
     pub fn as_i64(&self) -> Result<i64, BerError>
         ensures { AnswersSigned 64 (content_tree self.now) result }
     {
@@ -18,7 +18,8 @@ impl BerObjectContent<'_> {
         }
     }
 
-    /// As `as_i64`, where the number is from -2^31 to 2^31-1; IntegerTooLarge where it isn't.
+    /// The number of an INTEGER, like `as_i64`. Errors: those of `as_i64`, and IntegerTooLarge if it isn't from -2^31
+    /// to 2^31-1.
     pub fn as_i32(&self) -> Result<i32, BerError>
         ensures { AnswersSigned 32 (content_tree self.now) result }
     {
@@ -28,10 +29,11 @@ impl BerObjectContent<'_> {
         }
     }
 
-    /// The number of an INTEGER or ENUMERATED, or the one that the used bits of a BIT STRING spell,
-    /// the highest first. Errors: IntegerNegative for an INTEGER below 0; InvalidLength for a BIT STRING of
-    /// which more bits are unused than there are; IntegerTooLarge for a number above 2^64-1 and for
-    /// more than 64 used bits; BerTypeError for another content.
+    /// The number of an INTEGER or ENUMERATED, or the number that the used bits of a BIT STRING are in binary, the
+    /// highest first.
+    ///
+    /// Errors: IntegerNegative for an INTEGER below 0; InvalidLength for a BIT STRING with more unused bits than it has
+    /// bits; IntegerTooLarge for a number above 2^64-1 or more than 64 used bits; BerTypeError for another content.
     pub fn as_u64(&self) -> Result<u64, BerError>
         ensures { AnswersUnsigned 64 (content_tree self.now) result }
     {
@@ -43,7 +45,7 @@ impl BerObjectContent<'_> {
         }
     }
 
-    /// As `as_u64`, where the number is at most 2^32-1; IntegerTooLarge above.
+    /// The number, like `as_u64`. Errors: those of `as_u64`, and IntegerTooLarge if it is above 2^32-1.
     pub fn as_u32(&self) -> Result<u32, BerError>
         ensures { AnswersUnsigned 32 (content_tree self.now) result }
     {
@@ -52,28 +54,28 @@ impl BerObjectContent<'_> {
 }
 
 impl BerObject<'_> {
-    /// As `BerObjectContent::as_i64`.
+    /// The number, like `BerObjectContent::as_i64`.
     pub fn as_i64(&self) -> Result<i64, BerError>
         ensures { AnswersSigned 64 (content_tree self.now.content) result }
     {
         self.content.as_i64()
     }
 
-    /// As `BerObjectContent::as_i32`.
+    /// The number, like `BerObjectContent::as_i32`.
     pub fn as_i32(&self) -> Result<i32, BerError>
         ensures { AnswersSigned 32 (content_tree self.now.content) result }
     {
         self.content.as_i32()
     }
 
-    /// As `BerObjectContent::as_u64`.
+    /// The number, like `BerObjectContent::as_u64`.
     pub fn as_u64(&self) -> Result<u64, BerError>
         ensures { AnswersUnsigned 64 (content_tree self.now.content) result }
     {
         self.content.as_u64()
     }
 
-    /// As `BerObjectContent::as_u32`.
+    /// The number, like `BerObjectContent::as_u32`.
     pub fn as_u32(&self) -> Result<u32, BerError>
         ensures { AnswersUnsigned 32 (content_tree self.now.content) result }
     {

@@ -14,7 +14,7 @@ use der_base::time::ASN1DateTime;
 #[cycle(ast)]
 #[derive(Debug, Drop)]
 pub struct BerObject<'a> {
-    /// The identifier and length. The encoder doesn't use the length and the raw tag.
+    /// The identifier and the length. The encoder ignores the length and the raw tag.
     pub header: Header<'a>,
     /// The value.
     pub content: BerObjectContent<'a>,
@@ -24,19 +24,19 @@ pub struct BerObject<'a> {
 #[cycle(ast)]
 #[derive(Debug, Drop)]
 pub enum BerObjectContent<'a> {
-    /// The type of tag number 0, of which an element ends an indefinite length (X.690 8.1.5).
+    /// The type with tag number 0, that of end-of-contents octets (X.690 8.1.5).
     EndOfContent,
     /// BOOLEAN (8.2).
     Boolean(bool),
-    /// INTEGER, by its content octets (8.3).
+    /// INTEGER, as its content octets (8.3).
     Integer(&'a [u8]),
-    /// BIT STRING: how many bits of the last octet are unused, and the octets (8.6).
+    /// BIT STRING, as the number of unused bits in the last octet, and the octets (8.6).
     BitString(u8, BitStringObject<'a>),
     /// OCTET STRING (8.7).
     OctetString(&'a [u8]),
     /// NULL (8.8).
     Null,
-    /// ENUMERATED, by its number, which isn't negative (8.4).
+    /// ENUMERATED, as its number, which isn't negative (8.4).
     Enum(u64),
     /// OBJECT IDENTIFIER (8.19).
     OID(Oid<'a>),
@@ -52,41 +52,40 @@ pub enum BerObjectContent<'a> {
     IA5String(&'a str),
     /// UTF8String (8.23).
     UTF8String(&'a str),
-    /// T61String, also named TeletexString (8.23), of which UTF-8 alone is read.
+    /// T61String or TeletexString (8.23). Only UTF-8 is read.
     T61String(&'a str),
-    /// VideotexString (8.23), of which UTF-8 alone is read.
+    /// VideotexString (8.23). Only UTF-8 is read.
     VideotexString(&'a str),
-    /// ObjectDescriptor (8.25), of which UTF-8 alone is read.
+    /// ObjectDescriptor (8.25). Only UTF-8 is read.
     ObjectDescriptor(&'a str),
-    /// GraphicString (8.23), of which UTF-8 alone is read.
+    /// GraphicString (8.23). Only UTF-8 is read.
     GraphicString(&'a str),
-    /// GeneralString (8.23), of which UTF-8 alone is read.
+    /// GeneralString (8.23). Only UTF-8 is read.
     GeneralString(&'a str),
-    /// BMPString, by its octets: characters of two octets, the high one first (8.23).
+    /// BMPString, as its octets: two for each character, the high one first (8.23).
     BmpString(&'a [u8]),
-    /// UniversalString, by its octets: characters of four octets, the highest first (8.23).
+    /// UniversalString, as its octets: four for each character, the highest first (8.23).
     UniversalString(&'a [u8]),
-    /// SEQUENCE and SEQUENCE OF, by the items in their order (8.9, 8.10).
+    /// SEQUENCE or SEQUENCE OF, as its items in order (8.9, 8.10).
     Sequence(Vec<BerObject<'a>>),
-    /// SET and SET OF, by the items in the order of the encoding (8.11, 8.12).
+    /// SET or SET OF, as its items in the order of the encoding (8.11, 8.12).
     Set(Vec<BerObject<'a>>),
-    /// UTCTime, by its fields, with the last two digits of the year (8.25, X.680 47).
+    /// UTCTime, as its fields, with the last two digits of the year (8.25, X.680 47).
     UTCTime(ASN1DateTime),
-    /// GeneralizedTime, by its fields (8.25, X.680 46).
+    /// GeneralizedTime, as its fields (8.25, X.680 46).
     GeneralizedTime(ASN1DateTime),
-    /// An object that may be absent, and then has no octets.
+    /// An object that may be absent. If it is, it has no octets.
     Optional(Option<Box<BerObject<'a>>>),
-    /// An object inside an explicit tag, with the tag's class and number (X.690 8.14).
+    /// An object inside an explicit tag, with the class and number of the tag (X.690 8.14).
     Tagged(Class, Tag, Box<BerObject<'a>>),
-    /// An element of another class or type, with its content octets as they are. No reader looks
-    /// inside, by DER neither.
+    /// An element of another class or type, as its content octets. No reader looks inside, not even by DER.
     Unknown(Any<'a>),
 }
 
 /// An object that was read by DER.
 pub type DerObject<'a> = BerObject<'a>;
 
-/// The value of such an object.
+/// The value of an object that was read by DER.
 pub type DerObjectContent<'a> = BerObjectContent<'a>;
 
 impl<'a> BerObject<'a> {
@@ -94,7 +93,7 @@ impl<'a> BerObject<'a> {
     ghost use Rattle.der_object.specs.Objects.{content_number, object_node};
     ghost use Rattle.der_base.specs.Leaf.{is_list};
 
-    /// An object of these parts.
+    /// An object with this header and this content.
     pub fn from_header_and_content(
         header: Header<'a>,
         content: BerObjectContent<'a>,
@@ -105,9 +104,11 @@ impl<'a> BerObject<'a> {
         BerObject { header, content }
     }
 
-    /// An object of the universal type of its content, constructed if that is SEQUENCE or SET, with
-    /// a length of 0 and no raw tag. A tagged or unknown content keeps its tag number, and not its
-    /// class; an optional one has the number of the content inside it, or 0.
+    /// An object with the universal type of its content. It is constructed if that is SEQUENCE or SET. Its header has a
+    /// length of 0 and no raw tag.
+    ///
+    /// A tagged or unknown content keeps its tag number but not its class. An optional content has the number of the
+    /// content inside it, or 0.
     pub fn from_obj(content: BerObjectContent<'a>) -> BerObject<'a>
         ensures header { let n = content_number (content_tree content.entry) in
             IsHeader result.header Class.Universal (is_list n) n (Length.Definite 0) None }
@@ -120,7 +121,7 @@ impl<'a> BerObject<'a> {
         BerObject::from_header_and_content(header, content)
     }
 
-    /// An INTEGER with these content octets, as `from_obj` makes it.
+    /// An INTEGER with these content octets, made like `from_obj`.
     pub fn from_int_slice(i: &'a [u8]) -> BerObject<'a>
         ensures header { IsHeader result.header Class.Universal false 2 (Length.Definite 0) None }
         ensures content { result.content ≡ BerObjectContent.Integer i.entry }
@@ -128,7 +129,7 @@ impl<'a> BerObject<'a> {
         BerObject::from_obj(BerObjectContent::Integer(i))
     }
 
-    /// A SEQUENCE of these items, as `from_obj` makes it.
+    /// A SEQUENCE of these items, made like `from_obj`.
     ///
     /// ```
     /// let mut items = Vec::new(alloc);
@@ -145,7 +146,7 @@ impl<'a> BerObject<'a> {
         BerObject::from_obj(BerObjectContent::Sequence(l))
     }
 
-    /// A SET of these items, as `from_obj` makes it.
+    /// A SET of these items, made like `from_obj`.
     #[tactic(auto, using(crate::proofs::Trees::set_tree))]
     pub fn from_set(l: Vec<BerObject<'a>>) -> BerObject<'a>
         ensures header { IsHeader result.header Class.Universal true 17 (Length.Definite 0) None }
@@ -155,8 +156,7 @@ impl<'a> BerObject<'a> {
         BerObject::from_obj(BerObjectContent::Set(l))
     }
 
-    /// The same object with other identifier octets in its header, or none. Headers further in
-    /// stay.
+    /// This object with other identifier octets in its header, or none. Headers inside it stay as they are.
     pub fn set_raw_tag(self, raw_tag: Option<&'a [u8]>) -> BerObject<'a>
         ensures header { let h = self.entry.header in
             IsHeader result.header (class_of h) (is_constructed h) (number_of h) (length_of h)
@@ -169,7 +169,7 @@ impl<'a> BerObject<'a> {
     }
 }
 
-/// The object that `from_obj` makes of the content.
+/// Makes an object from its content, like `from_obj`.
 impl<'a> From<BerObjectContent<'a>> for BerObject<'a> {
     ghost use Rattle.der_object.specs.Objects.{IsMadeOf};
 
@@ -180,7 +180,7 @@ impl<'a> From<BerObjectContent<'a>> for BerObject<'a> {
     }
 }
 
-/// The object that `from_obj` makes of an OBJECT IDENTIFIER.
+/// Makes an object from an OBJECT IDENTIFIER, like `from_obj`.
 impl<'a> From<Oid<'a>> for BerObject<'a> {
     ghost use Rattle.der_object.specs.declared.object.BerObjectContent.TheVariants.{OID};
     ghost use Rattle.der_object.specs.Objects.{IsMadeOf};
@@ -196,8 +196,8 @@ impl BerObjectContent<'_> {
     ghost use Rattle.der_object.specs.View.{content_tree};
     ghost use Rattle.der_object.specs.Objects.{content_number, kept_octets};
 
-    /// The number of the universal type, or of the tag of a tagged or unknown content; that of an
-    /// optional one is the number of the content inside it, or 0.
+    /// The number of the universal type, or of the tag of a tagged or unknown content. An optional content has the
+    /// number of the content inside it, or 0.
     fn tag(&self) -> Tag
         ensures { result.0 ≡ content_number (content_tree self.now) }
     {
@@ -234,8 +234,7 @@ impl BerObjectContent<'_> {
         }
     }
 
-    /// The octets that a content keeps as they are written, and none for a content that is written
-    /// otherwise.
+    /// The octets of a content that is kept as octets. Any other content has none.
     #[inline]
     pub(crate) fn kept_octets(&self) -> &[u8]
         ensures { result.now ≡ kept_octets (content_tree self.now) }

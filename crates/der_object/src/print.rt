@@ -1,4 +1,4 @@
-//! The printer of objects.
+//! The pretty printer of objects.
 ghost use Rattle.std.specs.Prelude.{◌≡◌, IfOk, OnErr, OnOk, true, false, [], ◌∷◌};
 ghost use Rattle.der_object.specs.Printer.{IsPrinter, IsPrinterWith, flags_of, has_flag, with_flag, without_flag};
 ghost use Rattle.der_object.specs.Printer.{increment_of, indent_of, next_indent, printed};
@@ -12,7 +12,7 @@ use std::alloc::{AllocError, Global};
 use std::io::{ErrorKind, Write};
 use std::{fmt, io, str};
 
-/// What is printed beside the contents.
+/// What the printer shows in addition to contents.
 #[derive(Clone, Copy, Debug, PartialEq)]
 pub enum PrettyPrinterFlag {
     /// The items of lists.
@@ -21,7 +21,7 @@ pub enum PrettyPrinterFlag {
     ShowHeader,
 }
 
-/// An object, and how its text is written.
+/// A printer of an object, with its options.
 #[derive(Drop)]
 pub struct PrettyBer<'o, 'a> {
     obj: &'o BerObject<'a>,
@@ -31,9 +31,8 @@ pub struct PrettyBer<'o, 'a> {
 }
 
 impl<'a> BerObject<'a> {
-    /// A printer of the object with the items of lists and without headers, whose text is indented
-    /// by `indent` spaces, and the items of each list by `increment` more. Errors: `AllocError` if
-    /// there is no memory for the flag.
+    /// A printer of this object, with the items of lists and without headers. The text is indented by `indent` spaces,
+    /// and the items of each list by `increment` more. Errors: `AllocError` if there is no memory for the flag.
     ///
     /// ```
     /// let printer = object.as_pretty(alloc, 0, 2)?;
@@ -54,7 +53,7 @@ impl<'a> BerObject<'a> {
 }
 
 impl<'o, 'a> PrettyBer<'o, 'a> {
-    /// A printer of these parts.
+    /// A printer with this object and these options.
     pub fn new(
         obj: &'o BerObject<'a>,
         flags: Vec<PrettyPrinterFlag>,
@@ -71,8 +70,8 @@ impl<'o, 'a> PrettyBer<'o, 'a> {
         }
     }
 
-    /// A printer of an object within this one, with the same flags and a deeper indent, which
-    /// stops at the greatest number. Errors: `AllocError` if there is no memory for the flags.
+    /// A printer of an object inside this one, with the same flags and the next indent, which is at most `usize::MAX`.
+    /// Errors: `AllocError` if there is no memory for the flags.
     pub fn next_indent<'p>(
         &self,
         alloc: Global,
@@ -87,15 +86,14 @@ impl<'o, 'a> PrettyBer<'o, 'a> {
         Ok(PrettyBer::new(obj, flags, indent, self.increment))
     }
 
-    /// Whether the flag is there.
+    /// Whether the flag is set.
     pub fn is_flag_set(&self, flag: PrettyPrinterFlag) -> bool
         ensures { result ≡ has_flag (flags_of self.now) flag }
     {
         self.flags.iter().any(|f| *f == flag)
     }
 
-    /// Adds the flag, where it isn't there. It grows the printer's own
-    /// vector. Errors: `AllocError` if there is no memory for it, and then nothing changes.
+    /// Sets the flag, if it isn't set. Errors: `AllocError` if there is no memory for it; then nothing changes.
     pub fn set_flag(&mut self, flag: PrettyPrinterFlag) -> Result<(), AllocError>
         ensures ok { OnOk result (IsPrinterWith (with_flag (flags_of self.old) flag) self.old self.new) }
         ensures err { OnErr result (IsPrinterWith (flags_of self.old) self.old self.new) }
@@ -106,14 +104,14 @@ impl<'o, 'a> PrettyBer<'o, 'a> {
         Ok(())
     }
 
-    /// Takes every such flag out.
+    /// Removes the flag, however often it is there.
     pub fn unset_flag(&mut self, flag: PrettyPrinterFlag)
         ensures { IsPrinterWith (without_flag (flags_of self.old) flag) self.old self.new }
     {
         self.flags.retain(|f| *f != flag);
     }
 
-    /// Writes the text. Errors: `Io` if a write failed. It allocates nothing.
+    /// Writes the text. Errors: `Io` if a write failed. It doesn't allocate.
     pub fn write_text<W: Write>(&self, w: &mut FaultWriter<W>) -> Result<(), GenError>
         ensures text { Wrote W.contents w.old w.new result (printed self.now) }
         ensures io { IoWhereFaultsRose w.old w.new result }
@@ -127,7 +125,7 @@ impl<'o, 'a> PrettyBer<'o, 'a> {
     }
 }
 
-/// What `Debug` writes to, as a writer of octets.
+/// A writer of octets over the formatter of `Debug`.
 #[derive(Drop)]
 struct TextWriter<'f, F> {
     to: &'f mut F,
@@ -149,7 +147,7 @@ impl<'f, F: fmt::Write> Write for TextWriter<'f, F> {
     }
 }
 
-/// The same text as `write_text` writes.
+/// Writes the text of `write_text`.
 impl fmt::Debug for PrettyBer<'_, '_> {
     fn fmt<W: fmt::Write>(&self, f: &mut fmt::Formatter<W>) -> fmt::Result {
         let mut w = FaultWriter::new(TextWriter { to: f });

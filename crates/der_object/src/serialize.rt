@@ -1,8 +1,7 @@
-//! The octets of an object: the header as DER writes it (X.690 8.1.2, 10.1), and the content
-//! octets.
+//! The encoding of an object: its header as DER has it (X.690 8.1.2, 10.1), and its content octets.
 //!
-//! They are written from the last to the first: a length is written after its content, so
-//! no content is measured again for each list around it.
+//! The octets are written from the last to the first. Each length is written after its content, so no content is
+//! measured again for every list around it.
 ghost use Rattle.std.specs.Prelude.{◌≡◌, ◌≢◌, ◌≤◌, ◌^◌, ◌↔◌, ◌⊎◌, [], ◌++◌, length};
 ghost use Rattle.std.specs.Prelude.{IfOk, IfErr};
 ghost use Rattle.std.specs.Result.{IsErrOf};
@@ -10,22 +9,22 @@ ghost use Rattle.der_base.specs.Encoding.{encoding, encodings, content_octets};
 ghost use Rattle.der_base.specs.Header.{class_of, is_constructed, number_of};
 ghost use Rattle.der_base.specs.Octets.{identifier, shortest_length};
 ghost use Rattle.der_object.specs.View.{tree, content_tree, trees};
-ghost use Rattle.der_octets.specs.Room.{PutsBefore};
+ghost use Rattle.der_values.specs.Octets.Room.{PutsBefore};
 
 use crate::length::object_length;
 use crate::object::{BerObject, BerObjectContent};
 use der_base::error::GenError;
 use der_base::header::{Header, Length};
-use der_octets::header::{write_identifier, write_integer, write_length};
-use der_octets::octets::{write_octet, write_octets};
-use der_octets::time::{GENERALIZED_YEAR, UTC_YEAR, write_time};
+use der_values::octets::header::{write_identifier, write_integer, write_length};
+use der_values::octets::time::{GENERALIZED_YEAR, UTC_YEAR, write_time};
+use der_values::octets::{write_octet, write_octets};
 use std::alloc::Global;
 
 impl BerObject<'_> {
-    /// The octets of the object: identifier octets, a length in the fewest octets, and content
-    /// octets (8.1, 10.1). Of an object that is valid by DER they are the DER encoding, and of one
-    /// that BER read a spelling. Errors: `TooLarge` if they are more than 2^64-1, and
-    /// `OutOfMemory`. Room for all of them is made at once.
+    /// The encoding of the object: identifier octets, a length in the fewest octets, and content octets (8.1, 10.1). If
+    /// the object is valid by DER, this is its DER encoding. If it was read by BER, this is an encoding of it.
+    ///
+    /// Errors: `TooLarge` if there are more than 2^64-1 octets, and `OutOfMemory`. It allocates once.
     ///
     /// ```
     /// match parse_ber(alloc, input) {
@@ -51,7 +50,7 @@ impl BerObject<'_> {
     }
 }
 
-/// Writes an object before an offset (8.1.1), and returns where it begins.
+/// Writes an object so that it ends at an offset, and returns where it begins (8.1.1).
 #[cycle(serialize)]
 fn write_object(out: &mut [u8], end: usize, o: &BerObject<'_>) -> usize
     requires room { length (encoding (tree o.now)) ≤ end }
@@ -75,7 +74,7 @@ fn write_object(out: &mut [u8], end: usize, o: &BerObject<'_>) -> usize
     }
 }
 
-/// Writes content octets before an offset.
+/// Writes content octets so that they end at an offset.
 #[cycle(serialize)]
 #[tactic(auto, using(crate::proofs::Trees::sequence_tree, crate::proofs::Trees::set_tree))]
 fn write_content(out: &mut [u8], end: usize, content: &BerObjectContent<'_>) -> usize
@@ -103,7 +102,7 @@ fn write_content(out: &mut [u8], end: usize, content: &BerObjectContent<'_>) -> 
     }
 }
 
-/// Writes objects before an offset, one after another.
+/// Writes objects one after another, so that the last one ends at an offset.
 #[cycle(serialize)]
 fn write_items(out: &mut [u8], end: usize, items: &[BerObject<'_>]) -> usize
     requires room { length (encodings (trees items.now)) ≤ end }
@@ -117,7 +116,7 @@ fn write_items(out: &mut [u8], end: usize, items: &[BerObject<'_>]) -> usize
     begin
 }
 
-/// Writes the identifier octets of a header and the octets of a length before an offset.
+/// Writes the identifier octets of a header and a length so that they end at an offset.
 fn write_header(out: &mut [u8], end: usize, header: &Header<'_>, n: usize) -> usize
     requires room { let h = header.now in
         length (identifier (class_of h) (is_constructed h) (number_of h) ++ shortest_length n) ≤ end }

@@ -1,5 +1,5 @@
-//! The text of an object, sent through a writer. It takes no memory: numbers and small runs of
-//! octets are in an array until they are sent.
+//! The text of an object, sent through a writer. It doesn't allocate: numbers and small runs of octets are collected in
+//! an array.
 ghost use Rattle.std.specs.Prelude.{◌≡◌, ◌≤◌, ◌++◌, [], Option, Some, None, codes, decimal, if◌then◌else◌};
 ghost use Rattle.der_base.specs.Arcs.{arcs};
 ghost use Rattle.der_base.specs.Header.{class_of, is_constructed, number_of, length_of};
@@ -25,29 +25,29 @@ use der_base::error::GenError;
 use der_base::header::{Class, Header, Length, Tag};
 use der_base::oid::{Oid, OidIter};
 use der_base::time::ASN1DateTime;
-use der_octets::decimal::write_decimal;
-use der_octets::octets::write_octet;
-use der_octets::time::{GENERALIZED_YEAR, UTC_YEAR};
+use der_values::octets::decimal::write_decimal;
+use der_values::octets::time::{GENERALIZED_YEAR, UTC_YEAR};
+use der_values::octets::write_octet;
 use std::io::Write;
 
 /// How objects are printed.
 #[derive(Clone, Copy)]
 pub struct Layout {
-    /// The items of lists are printed.
+    /// Whether the items of lists are printed.
     pub recursive: bool,
-    /// The headers are printed.
+    /// Whether the headers are printed.
     pub headers: bool,
-    /// How much deeper an item is indented than its list.
+    /// How many spaces an item is indented more than its list.
     pub increment: usize,
 }
 
-/// So many spaces are sent at once.
+/// The spaces that are sent at once.
 const SPACES: [u8; 64] = [b' '; 64];
 
-/// The digits that a number of 64 bits has at most.
+/// The most digits of a 64-bit number.
 const DIGITS: usize = 20;
 
-/// Sends the text of an object that is indented by so many spaces.
+/// Sends the text of an object, indented by `indent` spaces.
 #[cycle(text)]
 pub fn send_text<W: Write>(
     w: &mut FaultWriter<W>,
@@ -61,7 +61,7 @@ pub fn send_text<W: Write>(
     send_content(w, &o.content, o.header.tag(), layout, indent)
 }
 
-/// Sends the text of a content after a header of a tag number.
+/// Sends the text of a content whose header has this tag number.
 #[cycle(text)]
 fn send_content<W: Write>(
     w: &mut FaultWriter<W>,
@@ -87,7 +87,7 @@ fn send_content<W: Write>(
     }
 }
 
-/// Sends the text of a list after a header of a tag number.
+/// Sends the text of a list whose header has this tag number.
 #[cycle(text)]
 fn send_list<W: Write>(
     w: &mut FaultWriter<W>,
@@ -107,7 +107,7 @@ fn send_list<W: Write>(
     send_inside(w, items, layout, indent)
 }
 
-/// Sends the items of a list, from the next line on, in brackets.
+/// Sends the items of a list in brackets, from the next line on.
 #[cycle(text)]
 fn send_inside<W: Write>(
     w: &mut FaultWriter<W>,
@@ -142,7 +142,7 @@ fn send_items<W: Write>(
     Ok(())
 }
 
-/// Sends the text of an object that may be absent, and is there.
+/// Sends the text of an optional object that is there.
 #[cycle(text)]
 fn send_present<W: Write>(
     w: &mut FaultWriter<W>,
@@ -178,7 +178,7 @@ fn send_tagged<W: Write>(
     send_str(w, "}")
 }
 
-/// Sends the text of a content that holds no object; of another, nothing.
+/// Sends the text of a content that contains no object. For another content it sends nothing.
 fn send_leaf<W: Write>(
     w: &mut FaultWriter<W>,
     content: &BerObjectContent<'_>,
@@ -221,7 +221,7 @@ fn send_leaf<W: Write>(
     }
 }
 
-/// Sends what precedes a content: spaces, and the header where it is printed.
+/// Sends what comes before a content: spaces, and the header if headers are printed.
 fn send_front<W: Write>(
     w: &mut FaultWriter<W>,
     header: &Header<'_>,
@@ -275,7 +275,7 @@ fn send_tag_name<W: Write>(w: &mut FaultWriter<W>, class: Class, tag: Tag) -> Re
     }
 }
 
-/// Sends the name of a universal type, or its number where it has none.
+/// Sends the name of a universal type, or its number if it has no name.
 fn send_type_name<W: Write>(w: &mut FaultWriter<W>, tag: Tag) -> Result<(), GenError>
     ensures { Wrote W.contents w.old w.new result (type_name tag.0) }
 {
@@ -307,7 +307,7 @@ fn send_class_and_number<W: Write>(
     send_number(w, u64::from(tag.0))
 }
 
-/// Sends the mark of the constructed form.
+/// Sends the mark of a constructed element, `+`, or nothing for a primitive one.
 fn send_form<W: Write>(w: &mut FaultWriter<W>, constructed: bool) -> Result<(), GenError>
     ensures { Wrote W.contents w.old w.new result (if constructed then codes "+" else []) }
 {
@@ -328,7 +328,7 @@ fn send_length<W: Write>(w: &mut FaultWriter<W>, length: Length) -> Result<(), G
     }
 }
 
-/// The name of a list after a header of a tag number.
+/// The name of a list whose header has this tag number.
 fn list_name(tag: Tag) -> &'static str
     ensures { result.now ≡ list_name tag.0 }
 {
@@ -371,7 +371,7 @@ fn send_enum<W: Write>(w: &mut FaultWriter<W>, n: u64) -> Result<(), GenError>
     send_str(w, ")")
 }
 
-/// Sends the text of an identifier: its arcs, or its octets where they are no arcs.
+/// Sends the text of an identifier: its arcs, or its octets if they aren't arcs.
 fn send_identifier<W: Write>(
     w: &mut FaultWriter<W>,
     name: &str,
@@ -387,7 +387,7 @@ fn send_identifier<W: Write>(
     send_str(w, ")")
 }
 
-/// Sends the arcs of an identifier with points between them, or its octets where they are no arcs.
+/// Sends the arcs of an identifier with dots between them, or its octets if they aren't arcs.
 fn send_arcs<W: Write>(w: &mut FaultWriter<W>, oid: &Oid<'_>) -> Result<(), GenError>
     ensures { let octets = octets_of oid.now in
         Wrote W.contents w.old w.new result (arcs_text (arcs (is_relative_of oid.now) octets) octets) }
@@ -402,7 +402,7 @@ fn send_arcs<W: Write>(w: &mut FaultWriter<W>, oid: &Oid<'_>) -> Result<(), GenE
     send_further_arcs(w, arcs)
 }
 
-/// Sends arcs, each with a point in front.
+/// Sends arcs, each after a dot.
 fn send_further_arcs<W: Write>(w: &mut FaultWriter<W>, arcs: OidIter<'_>) -> Result<(), GenError>
     ensures { Wrote W.contents w.old w.new result (pointed (arcs_left arcs.entry)) }
 {
@@ -412,7 +412,7 @@ fn send_further_arcs<W: Write>(w: &mut FaultWriter<W>, arcs: OidIter<'_>) -> Res
     Ok(())
 }
 
-/// Sends a point and a number.
+/// Sends a dot and a number.
 fn send_pointed<W: Write>(w: &mut FaultWriter<W>, n: u64) -> Result<(), GenError>
     ensures { Wrote W.contents w.old w.new result (codes "." ++ decimal n) }
 {
@@ -431,7 +431,7 @@ fn send_number<W: Write>(w: &mut FaultWriter<W>, n: u64) -> Result<(), GenError>
     send(w, &room[begin..])
 }
 
-/// Sends the text of a time, with a year of at least so many digits.
+/// Sends the text of a time, with at least this many digits for the year.
 fn send_moment<W: Write>(
     w: &mut FaultWriter<W>,
     name: &str,
@@ -447,8 +447,7 @@ fn send_moment<W: Write>(
     send_str(w, "\")")
 }
 
-/// Sends the text of a string whose characters are coded in octets, or the octets where they are
-/// no characters, and ends the line.
+/// Sends the characters of a string from its octets, or the octets if they aren't characters, and ends the line.
 fn send_coded<W: Write>(
     w: &mut FaultWriter<W>,
     name: &str,
@@ -464,7 +463,7 @@ fn send_coded<W: Write>(
     send_decoded(w, name, coding, octets)
 }
 
-/// Sends a name and characters that are coded in octets, and ends the line.
+/// Sends a name and the characters that octets encode, and ends the line.
 fn send_decoded<W: Write>(
     w: &mut FaultWriter<W>,
     name: &str,
@@ -481,7 +480,7 @@ fn send_decoded<W: Write>(
     send_str(w, "\n")
 }
 
-/// Sends a name and octets that are no characters, and ends the line.
+/// Sends a name and octets that aren't characters, and ends the line.
 fn send_undecoded<W: Write>(
     w: &mut FaultWriter<W>,
     name: &str,
@@ -504,7 +503,7 @@ fn send_octets<W: Write>(w: &mut FaultWriter<W>, name: &str, octets: &[u8]) -> R
     send_str(w, ")")
 }
 
-/// Sends the text of a content that stays octets.
+/// Sends the text of a content that is kept as octets.
 fn send_unknown<W: Write>(w: &mut FaultWriter<W>, octets: &[u8]) -> Result<(), GenError>
     ensures { Wrote W.contents w.old w.new result (codes "Unknown " ++ hex octets.now) }
 {
@@ -532,7 +531,7 @@ fn send_quoted<W: Write>(w: &mut FaultWriter<W>, name: &str, text: &str) -> Resu
     send_str(w, "\")")
 }
 
-/// Sends so many spaces.
+/// Sends this many spaces.
 fn send_spaces<W: Write>(w: &mut FaultWriter<W>, count: usize) -> Result<(), GenError>
     ensures { Wrote W.contents w.old w.new result (spaces count) }
 {

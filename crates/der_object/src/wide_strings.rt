@@ -11,16 +11,16 @@ use crate::writer::{FaultWriter, send};
 use der_base::error::GenError;
 use std::io::Write;
 
-/// How characters are coded in octets.
+/// How octets encode characters.
 #[derive(Clone, Copy)]
 pub enum Coding {
-    /// In units of two octets, the high one first.
+    /// UTF-16: units of two octets, the high one first.
     Utf16,
-    /// In four octets, the highest first.
+    /// UTF-32: four octets, the highest first.
     Utf32,
 }
 
-/// Whether the octets are characters throughout. Octets that are left after them aren't looked at.
+/// Whether the octets are characters. Octets that are left over at the end aren't checked.
 pub fn are_characters(coding: Coding, octets: &[u8]) -> bool
     ensures { result ≡ is_some (characters_text (chars_of coding octets.now)) }
 {
@@ -34,7 +34,7 @@ pub fn are_characters(coding: Coding, octets: &[u8]) -> bool
     true
 }
 
-/// Sends the characters that the octets are.
+/// Sends the characters that these octets encode.
 pub fn send_characters<W: Write>(
     w: &mut FaultWriter<W>,
     coding: Coding,
@@ -50,7 +50,7 @@ pub fn send_characters<W: Write>(
     Ok(())
 }
 
-/// Sends a character, where there is one.
+/// Sends a character, if there is one.
 fn send_character<W: Write>(w: &mut FaultWriter<W>, character: Option<char>) -> Result<(), GenError>
     ensures { Wrote W.contents w.old w.new result (text_of_chars (character ∷ [])) }
 {
@@ -61,7 +61,7 @@ fn send_character<W: Write>(w: &mut FaultWriter<W>, character: Option<char>) -> 
     send(w, character.encode_utf8(&mut room).as_bytes())
 }
 
-/// The first character, which may be none, and the octets after it.
+/// The first character and the octets after it. The character is None if the first octets aren't one.
 fn split_character(coding: Coding, octets: &[u8]) -> Option<(Option<char>, &[u8])>
     ensures { MatchOption result (chars_of coding octets.now ≡ [])
         (λ x. (chars_of coding octets.now ≡ x.0 ∷ chars_of coding x.1.now) × (length x.1.now < length octets.now)) }
@@ -72,7 +72,7 @@ fn split_character(coding: Coding, octets: &[u8]) -> Option<(Option<char>, &[u8]
     }
 }
 
-/// The first character of UTF-16: that of a pair of surrogates, or of a unit alone.
+/// The first character of UTF-16: that of a surrogate pair, or of a single unit.
 fn split_utf16(octets: &[u8]) -> Option<(Option<char>, &[u8])>
     ensures { MatchOption result (utf16_chars (units octets.now) ≡ [])
         (λ x. (utf16_chars (units octets.now) ≡ x.0 ∷ utf16_chars (units x.1.now))
@@ -87,8 +87,7 @@ fn split_utf16(octets: &[u8]) -> Option<(Option<char>, &[u8])>
     Some((character, behind))
 }
 
-/// The character of a pair of surrogates, of which the first unit comes first, and the octets
-/// after it. None if that unit is alone.
+/// The character of a surrogate pair with this first unit, and the octets after it. None if the unit stands alone.
 fn split_low(high: u16, octets: &[u8]) -> Option<(Option<char>, &[u8])>
     ensures { MatchOption result
         (utf16_chars (high ∷ units octets.now) ≡ lone_unit_char high ∷ utf16_chars (units octets.now))
@@ -131,7 +130,7 @@ fn split_utf32(octets: &[u8]) -> Option<(Option<char>, &[u8])>
     Some((character(number), rest))
 }
 
-/// The character of a pair of surrogates.
+/// The character of a surrogate pair.
 fn pair_character(high: u16, low: u16) -> Option<char>
     requires high { IsTrue (is_high_surrogate high) }
     requires low { IsTrue (is_low_surrogate low) }
@@ -140,28 +139,28 @@ fn pair_character(high: u16, low: u16) -> Option<char>
     character(0x1_0000 + (u32::from(high) - 0xd800) * 0x400 + (u32::from(low) - 0xdc00))
 }
 
-/// The character of a unit alone, where it is no surrogate.
+/// The character of a single unit. None if it is a surrogate.
 fn lone_character(unit: u16) -> Option<char>
     ensures { result ≡ lone_unit_char unit }
 {
     char::from_u32(u32::from(unit))
 }
 
-/// The character of a number, where it is that of one.
+/// The character with this number, if there is one.
 fn character(number: u32) -> Option<char>
     ensures { result ≡ character number }
 {
     char::from_u32(number)
 }
 
-/// Whether a unit is the first of a pair of surrogates.
+/// Whether a unit is the first of a surrogate pair.
 fn is_high(unit: u16) -> bool
     ensures { result ≡ is_high_surrogate unit }
 {
     matches!(unit, 0xd800..=0xdbff)
 }
 
-/// Whether a unit is the second of a pair of surrogates.
+/// Whether a unit is the second of a surrogate pair.
 fn is_low(unit: u16) -> bool
     ensures { result ≡ is_low_surrogate unit }
 {

@@ -1,4 +1,4 @@
-//! A writer that counts its faults, and the sending of octets through it.
+//! A writer that counts failed writes, and `send`, which writes all octets through it.
 ghost use Rattle.std.specs.Prelude.{◌≡◌};
 ghost use Rattle.std.specs.Io.{WritesAtMost};
 ghost use Rattle.std.specs.Io.KnownBytes.{WriteAppends};
@@ -8,7 +8,7 @@ use der_base::error::GenError;
 use std::io;
 use std::io::{ErrorKind, Write};
 
-/// Hands octets on to a writer, and counts the writes that fail.
+/// A writer that passes octets on to another one, and counts the writes that fail.
 #[derive(Drop)]
 pub struct FaultWriter<W> {
     inner: W,
@@ -16,7 +16,7 @@ pub struct FaultWriter<W> {
 }
 
 impl<W> FaultWriter<W> {
-    /// A writer over this one, with no fault.
+    /// A writer over this one. No write has failed yet.
     pub fn new(inner: W) -> FaultWriter<W>
         ensures inner { inner_of result ≡ inner }
         ensures none { faults_of result ≡ 0 }
@@ -24,7 +24,7 @@ impl<W> FaultWriter<W> {
         FaultWriter { inner, faults: 0 }
     }
 
-    /// The writer underneath, by value.
+    /// The inner writer, by value.
     pub fn into_inner(self) -> W
         ensures { result ≡ inner_of self }
     {
@@ -32,7 +32,7 @@ impl<W> FaultWriter<W> {
         inner
     }
 
-    /// How many writes failed. It stays at its greatest value.
+    /// The number of writes that failed. It stops at `u128::MAX`.
     pub fn faults(&self) -> u128
         ensures { result ≡ faults_of self.now }
     {
@@ -41,8 +41,8 @@ impl<W> FaultWriter<W> {
 }
 
 impl<W: Write> FaultWriter<W> {
-    /// Hands octets on, and returns how many were taken. A write fails if it returns an error, or takes
-    /// none of some octets.
+    /// Passes octets on, and returns how many were written. A write fails if it returns an error, or writes none of one
+    /// or more octets.
     pub fn write(&mut self, octets: &[u8]) -> io::Result<usize>
         ensures bound { WritesAtMost result octets.now }
         ensures octets { WriteAppends (written W.contents self.old) (written W.contents self.new) result octets.now }
@@ -60,8 +60,8 @@ impl<W: Write> FaultWriter<W> {
     }
 }
 
-/// Sends octets: what a write leaves goes into the next. The first write that fails ends it, one that
-/// was interrupted too.
+/// Writes all octets, with further writes for what is left. It stops at the first write that fails, also if that was
+/// interrupted.
 pub fn send<W: Write>(w: &mut FaultWriter<W>, octets: &[u8]) -> Result<(), GenError>
     ensures { Wrote W.contents w.old w.new result octets.now }
 {

@@ -1,4 +1,10 @@
--- The definitions that the contracts cite, under this name.
+pub use Rattle.der_readers.specs.Ber.Laws as BerLaws
+pub use Rattle.der_elements.specs.Check.Laws as CheckLaws
+pub use Rattle.der_elements.specs.Check.Elements as CheckedElements
+pub use Rattle.der_cursor.specs.Laws as CursorLaws
+pub use Rattle.der_readers.specs.Der.Laws as DerLaws
+pub use Rattle.der_elements.specs.Check.Listing as ElementListing
+pub use Rattle.der_parser.specs.Viewing.Values as NodeValues
 pub use Rattle.der_base.specs.Answer
 pub use Rattle.der_base.specs.Any
 pub use Rattle.der_base.specs.Arcs
@@ -13,6 +19,7 @@ pub use Rattle.der_base.specs.Exactly
 pub use Rattle.der_base.specs.Fault
 pub use Rattle.der_base.specs.Header
 pub use Rattle.der_base.specs.Headers
+pub use Rattle.der_base.specs.Laws
 pub use Rattle.der_base.specs.Leaf
 pub use Rattle.der_base.specs.LeafRefusal
 pub use Rattle.der_base.specs.LengthOctets
@@ -34,7 +41,15 @@ pub use Rattle.der_base.specs.Text
 pub use Rattle.der_base.specs.Time
 pub use Rattle.der_base.specs.Tree
 pub use Rattle.der_base.specs.TreeEquality
-pub use Rattle.der_base.specs.Laws
+pub use Rattle.der_elements.specs.Check.Overlay
+pub use Rattle.der_elements.specs.Check.Readers
+pub use Rattle.der_combinators.specs.Lists
+pub use Rattle.der_combinators.specs.Slices
+pub use Rattle.der_cursor.specs.Cursors
+pub use Rattle.der_cursor.specs.Elements
+pub use Rattle.der_cursor.specs.Formats
+pub use Rattle.der_cursor.specs.Named
+pub use Rattle.der_cursor.specs.Runs
 pub use Rattle.der_object.specs.Bits
 pub use Rattle.der_object.specs.Clones
 pub use Rattle.der_object.specs.Combined
@@ -47,30 +62,18 @@ pub use Rattle.der_object.specs.Printer
 pub use Rattle.der_object.specs.Readings
 pub use Rattle.der_object.specs.View
 pub use Rattle.der_object.specs.Writing
-pub use Rattle.der_ber.specs.BerReading
-pub use Rattle.der_ber.specs.Laws as BerLaws
-pub use Rattle.der_der.specs.DerReading
-pub use Rattle.der_der.specs.Laws as DerLaws
-pub use Rattle.der_combinators.specs.Lists
-pub use Rattle.der_combinators.specs.Slices
-pub use Rattle.der_types.specs.TypedReading
-pub use Rattle.der_cursor.specs.Cursors
-pub use Rattle.der_cursor.specs.Elements
-pub use Rattle.der_cursor.specs.Formats
-pub use Rattle.der_cursor.specs.Laws as CursorLaws
-pub use Rattle.der_cursor.specs.Named
-pub use Rattle.der_cursor.specs.Runs
+pub use Rattle.der_parser.specs.Viewing.Vectors
+pub use Rattle.der_parser.specs.Viewing.Views
+pub use Rattle.der_readers.specs.Ber.BerReading
+pub use Rattle.der_readers.specs.Der.DerReading
+pub use Rattle.der_readers.specs.Types.TypedReading
 pub use Rattle.der_values.specs.ArcNumbers
 pub use Rattle.der_values.specs.Decimal
 pub use Rattle.der_values.specs.Identifiers
 pub use Rattle.der_values.specs.Kinds
 pub use Rattle.der_visit.specs.Changing
 pub use Rattle.der_visit.specs.Visiting
-pub use Rattle.der_nodes.specs.FaultPlaces
-pub use Rattle.der_nodes.specs.Laws as NodesLaws
-pub use Rattle.der_nodes.specs.NodesReading
-pub use Rattle.der_nodes.specs.Places
-pub use Rattle.der_view.specs.Laws as ViewLaws
-pub use Rattle.der_view.specs.Values as NodeValues
-pub use Rattle.der_view.specs.Vectors
-pub use Rattle.der_view.specs.Views
+pub mod Viewing
+pub use Rattle.der_parser.specs.Viewing.Laws as ViewLaws
+
+-- The definitions that the contracts cite, under this name.

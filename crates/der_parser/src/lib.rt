@@ -1,14 +1,16 @@
-//! BER and DER (X.690) read and written. This is the one name that users import: it holds no code
-//! of its own, and names what the crates below it have.
+//! BER and DER (X.690), read and written. Users import this crate alone: it names the calls of the crates below it. Of
+//! its own it has `view`, and what stands on these names alone: `names`, `uses` and `law_names`.
 #![tactic(auto)]
+
+pub mod view;
 
 pub use der_base::error::IResult;
 pub use der_base::oid::Oid;
 pub use der_base::rules::Rules;
-pub use der_ber::parse_ber;
-pub use der_der::parse_der;
+pub use der_readers::ber::parse_ber;
+pub use der_readers::der::parse_der;
 
-/// Errors, and what a parser answers.
+/// Errors, and what a parser returns.
 pub mod error {
     pub use der_base::error::{
         BerError, DerConstraint, Err, Error, ErrorKind, GenError, IResult, Needed, ParseError,
@@ -24,10 +26,6 @@ pub mod ber {
     };
     pub use der_base::time::{ASN1DateTime, ASN1TimeZone, TimeText};
     pub use der_base::{MAX_OBJECT_SIZE, MAX_RECURSION};
-    pub use der_ber::{
-        parse_ber, parse_ber_any, parse_ber_any_r, parse_ber_any_with_tag_r, parse_ber_counted,
-        parse_ber_recursive,
-    };
     pub use der_combinators::{
         Container, ExplicitContainer, ExplicitObject, ImplicitContainer, ImplicitObject,
         ListObject, ListOfObjects, ListOfValues, NumberedContainer, OptionalObject,
@@ -42,7 +40,11 @@ pub mod ber {
         FaultWriter, ber_encode_header, ber_encode_object, ber_encode_object_raw,
         ber_encode_tagged_explicit, ber_encode_tagged_implicit,
     };
-    pub use der_types::{
+    pub use der_readers::ber::{
+        parse_ber, parse_ber_any, parse_ber_any_r, parse_ber_any_with_tag_r, parse_ber_counted,
+        parse_ber_recursive,
+    };
+    pub use der_readers::types::{
         ContentReader as BerContent, ContentReader2 as BerContent2, ber_object_from_any,
         ber_read_element_content_as, parse_ber_bitstring, parse_ber_bmpstring, parse_ber_bool,
         parse_ber_content, parse_ber_content2, parse_ber_endofcontent, parse_ber_enum,
@@ -81,9 +83,9 @@ pub mod der {
         parse_der_set_of_v, parse_der_slice, parse_der_tagged_explicit,
         parse_der_tagged_explicit_g, parse_der_tagged_implicit, parse_der_tagged_implicit_g,
     };
-    pub use der_der::{parse_der, parse_der_counted, parse_der_recursive};
     pub use der_object::{DerObject, DerObjectContent};
-    pub use der_types::{
+    pub use der_readers::der::{parse_der, parse_der_counted, parse_der_recursive};
+    pub use der_readers::types::{
         ContentReader as DerContent, ContentReader2 as DerContent2, der_read_element_content,
         der_read_element_content_as, parse_der_bitstring, parse_der_bmpstring, parse_der_bool,
         parse_der_content, parse_der_content2, parse_der_endofcontent, parse_der_enum,
@@ -111,13 +113,13 @@ pub mod values {
     };
 }
 
-/// Elements by their offsets in the input, read without memory by BER and DER, and a view of them.
+/// Elements by their offsets in the input, listed without memory by the rules of X.690, and a view of
+/// them.
 pub mod nodes {
-    pub use der_nodes::{
-        Counted, Element, PlacedError, PlacedResult, check_ber, check_der, parse_ber_nodes,
-        parse_ber_nodes_counted, parse_ber_nodes_placed, parse_der_nodes, parse_der_nodes_placed,
+    pub use crate::view::{Node, Nodes, Preorder, Trees, Value, read_element};
+    pub use der_elements::check::{
+        Element, Listed, Slot, are_elements, check_element, is_element, list_element, list_elements,
     };
-    pub use der_view::{Node, Nodes, Preorder, Trees, Value, read_ber_nodes, read_der_nodes};
 }
 
 /// Object identifiers.
@@ -130,27 +132,24 @@ pub mod oid {
 /// Laws of the definitions and of what is read and written. Each is a function with an empty body,
 /// whose contract is the law.
 pub mod laws {
+    pub use crate::view::laws::{
+        der_trees_show, elements_show, nodes_show_one_tree, values_are_one,
+    };
     pub use der_base::laws::{
         clones_are_the_value, clones_want_no_memory, equals_are_alike, equals_are_the_same,
     };
     pub use der_base::oid::arcs_come_back;
-    pub use der_ber::laws::written_is_read_back;
     pub use der_cursor::laws::{cursor_clones_are_the_value, places_are_exact};
-    pub use der_der::laws::written_is_what_was_read;
-    pub use der_laws::{
+    pub use der_elements::check::laws::elements_have_one_list;
+    pub use der_object::laws::{equals_have_one_tree, small_clones_are_the_value};
+    pub use der_readers::ber::laws::written_is_read_back;
+    pub use der_readers::der::laws::written_is_what_was_read;
+    pub use der_values::laws::{
         always_one, appended_lengthen_headers, appended_only_lengthen, der_is_within_ber,
         elements_are_never_refused, encoding_is_normal_form, faults_are_one, fronts_are_cut,
         header_fronts_are_cut, integers_are_shortest, lengths_are_shortest,
         lengths_show_in_headers, never_both, numbers_fit_or_are_refused, one_content, one_refusal,
         opened_in_one_way, opened_never_refused, refused_headers_stay_refused,
         set_of_has_one_order, spellings_are_one, tag_numbers_are_shortest, unused_bits_are_last,
-    };
-    pub use der_nodes::laws::{
-        ber_places_are_exact as ber_element_places_are_exact,
-        places_are_exact as element_places_are_exact, refusals_have_one_place,
-    };
-    pub use der_object::laws::{equals_have_one_tree, small_clones_are_the_value};
-    pub use der_view::laws::{
-        ber_elements_show, der_elements_show, nodes_show_one_tree, values_are_one,
     };
 }

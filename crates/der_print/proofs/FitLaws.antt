@@ -1,8 +1,8 @@
 -- How many characters a line has.
 use Rattle.std.proofs.Common.{◌≡◌, ℕ, ◌+◌, ◌-◌, ◌≤◌, Bool, true, false, Option, List, ◌++◌, codes, length, if◌then◌else◌, arith, refl, subst, sym}
 use Rattle.std.specs.Fmt.{char_count}
-use Rattle.der_walk.specs.TypeNames.{type_text}
-use Rattle.der_walk.specs.Visits.{Visited}
+use Rattle.der_elements.specs.TypeNames.{type_text}
+use Rattle.der_elements.specs.Visits.{Visited}
 use Rattle.oid_names.specs.OwnNames.{Named}
 use Rattle.der_print.specs.declared.style.Limit.TheVariants.{Columns}
 use Rattle.der_print.specs.declared.style.Style.{Style}

@@ -6,10 +6,10 @@ use Rattle.der_base.specs.declared.rules.Rules.{Rules}
 use Rattle.der_print.specs.declared.style.Style.{Style}
 use Rattle.der_print.specs.Lines.{AreNamedLines, IsLineOf, IsNamedLine, IsValueSaid, content_in, holding_text, limit_of, no_lines, one_more_line}
 use Rattle.der_print.specs.Texts.{content_of, octets_or_none}
-use Rattle.der_walk.specs.declared.element.Element.{Element}
-use Rattle.der_walk.specs.Ends.{between}
-use Rattle.der_walk.specs.Visits.{Visited}
-use Rattle.der_walk.specs.Walked.{HasOctets, visited_of}
+use Rattle.der_elements.specs.declared.element.Element.{Element}
+use Rattle.der_elements.specs.Ends.{between}
+use Rattle.der_elements.specs.Visits.{Visited}
+use Rattle.der_elements.specs.Walked.{HasOctets, visited_of}
 use Rattle.oid_names.specs.OwnNames.{Named}
 
 pub lines_more : {own : Option (List Named)} {style : Style} {i : List ℕ} {vs : List Visited} {text : List ℕ} (v : Visited) (line : List ℕ) → AreNamedLines own style i vs text

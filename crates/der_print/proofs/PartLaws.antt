@@ -8,7 +8,7 @@ use Rattle.der_print.specs.declared.style.Limit.{Limit}
 use Rattle.der_print.specs.declared.style.Limit.TheVariants.{Columns}
 use Rattle.der_print.specs.Cuts.{behind, cut, in_columns}
 use Rattle.std.specs.Fmt.{WritesInCalls}
-use Rattle.der_walk.specs.Visits.{Visited}
+use Rattle.der_elements.specs.Visits.{Visited}
 use Rattle.oid_names.specs.OwnNames.{Named}
 use Rattle.der_print.specs.declared.line_octets.LineOctets.{LineOctets}
 use Rattle.der_print.specs.Lines.{IsEnding}

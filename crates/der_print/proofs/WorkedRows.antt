@@ -16,7 +16,7 @@ use Rattle.der_print.specs.Quotes.{character_text, quoted_text}
 use Rattle.der_contents.specs.declared.content_error.ContentError.TheVariants as errors
 use Rattle.der_print.specs.Remarks.{rule_of_content}
 use Rattle.der_print.specs.Values.{boolean_text, identifier_text, number_text, octets_text, real_text, zone_text}
-use Rattle.der_walk.specs.Visits.{Visited}
+use Rattle.der_elements.specs.Visits.{Visited}
 
 abbrev visited : ℕ → ℕ → Option ℕ → Class → Bool → ℕ → ℕ → Visited
 visited offset header l c p t depth =

@@ -4,7 +4,7 @@ use Rattle.std.specs.Fmt.{char_count}
 use Rattle.der_print.specs.declared.style.Limit.TheVariants.{Columns}
 use Rattle.der_print.specs.declared.style.Style.{Style}
 use Rattle.der_print.specs.Lines.{IsLineOf}
-use Rattle.der_walk.specs.Visits.{Visited}
+use Rattle.der_elements.specs.Visits.{Visited}
 use Rattle.oid_names.specs.OwnNames.{Named}
 
 -- a line has no more characters than columns, but for its end, and for 16 that begin and end special letters

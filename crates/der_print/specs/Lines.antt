@@ -13,9 +13,9 @@ use Rattle.der_print.specs.Cuts.{behind, cut}
 use Rattle.der_print.specs.Remarks.{IsRemark}
 use Rattle.der_print.specs.Shown.{IsShown}
 use Rattle.der_print.specs.Values.{IsValue}
-use Rattle.der_walk.specs.Ends.{between}
-use Rattle.der_walk.specs.TypeNames.{type_text}
-use Rattle.der_walk.specs.Visits.{Visited}
+use Rattle.der_elements.specs.Ends.{between}
+use Rattle.der_elements.specs.TypeNames.{type_text}
+use Rattle.der_elements.specs.Visits.{Visited}
 use Rattle.oid_names.specs.OwnNames.{Named}
 
 -- a text with spaces before it, up to so many columns, and one with spaces after it
@@ -178,6 +178,3 @@ pub data AreNamedLines (own : Option (List Named)) (style : Style) (i : List ℕ
   one_more_line : {v : Visited} {vs : List Visited} (line rest : List ℕ)
       → IsNamedLine own style v (content_in i v) line → AreNamedLines own style i vs rest
       → AreNamedLines own style i (v ∷ vs) (line ++ rest)
-
-abbrev pub AreLines : Style → List ℕ → List Visited → List ℕ → Type 0
-AreLines style i vs text = AreNamedLines None style i vs text

@@ -6,7 +6,7 @@ use Rattle.der_print.specs.Lines.{IsEnding}
 use Rattle.der_print.specs.Shown.{IsShown}
 use Rattle.der_print.specs.Texts.{octets_in}
 use Rattle.der_print.specs.declared.line_octets.LineOctets.{LineOctets}
-use Rattle.der_walk.specs.Visits.{Visited}
+use Rattle.der_elements.specs.Visits.{Visited}
 use Rattle.oid_names.specs.OwnNames.{Named}
 
 -- a line of which so much is left grew by a text, and so much is left behind it

@@ -10,8 +10,8 @@ use Rattle.der_print.specs.declared.remark.BrokenRule.{BrokenRule}
 use Rattle.der_print.specs.declared.remark.Remark.{Remark}
 use Rattle.der_print.specs.declared.remark.Remark.TheVariants.{Rule, Inside}
 use Rattle.der_print.specs.Quotes.{octet_text}
-use Rattle.der_walk.specs.Inside.{IsFaultInside}
-use Rattle.der_walk.specs.Visits.{Visited}
+use Rattle.der_elements.specs.Inside.{IsFaultInside}
+use Rattle.der_elements.specs.Visits.{Visited}
 
 -- whether an octet may be in a string of the type with this number; any is in one of another type
 abbrev pub is_of_type : ℕ → ℕ → Bool

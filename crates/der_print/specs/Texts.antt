@@ -2,8 +2,8 @@
 use Rattle.std.specs.Prelude.{ℕ, List, drop}
 use Rattle.der_print.specs.declared.line_octets.LineOctets.{LineOctets}
 use Rattle.der_print.specs.declared.row.Row.{Row}
-use Rattle.der_walk.specs.declared.element.Element.{Element}
-pub use Rattle.der_walk.specs.Reading.{octets_or_none}
+use Rattle.der_elements.specs.declared.element.Element.{Element}
+pub use Rattle.der_elements.specs.Reading.{octets_or_none}
 
 -- those of a line
 abbrev pub octets_in : LineOctets → List ℕ

@@ -10,7 +10,7 @@ use std::fmt;
 /// The columns of the number of unused bits.
 const UNUSED: usize = 16;
 
-/// The octets of a BIT STRING, and how many bits of the last aren't used.
+/// A BIT STRING: its octets, and the number of unused bits in the last one.
 #[derive(Clone, Copy)]
 pub struct Bits<'a> {
     /// The content octets.
@@ -35,7 +35,7 @@ impl fmt::Display for Bits<'_> {
     }
 }
 
-/// Writes how many bits aren't used.
+/// Writes the number of unused bits.
 fn write_unused<W: fmt::Write>(f: &mut fmt::Formatter<W>, unused: u8) -> fmt::Result
     ensures { DisplaysOnOk W.Write.write_str_gives f.old result (Some (unused_text unused)) f.new }
 {

@@ -6,8 +6,8 @@ ghost use Rattle.der_print.specs.Quotes.{character_text, code_text, is_hidden, i
 
 use std::fmt;
 
-/// Writes a character of a quoted text. The quote, the backslash, control characters, and marks that
-/// change the direction of a text or that can't be seen are escaped.
+/// Writes a character of a quoted text. Escapes quotes, backslashes, control characters, and characters that are
+/// invisible or change the direction of a text.
 pub(crate) fn write_character<W: fmt::Write>(
     f: &mut fmt::Formatter<W>,
     character: char,
@@ -25,14 +25,14 @@ pub(crate) fn write_character<W: fmt::Write>(
     }
 }
 
-/// Writes a character by its number.
+/// Writes a character as its code.
 fn write_code<W: fmt::Write>(f: &mut fmt::Formatter<W>, code: u32) -> fmt::Result
     ensures { DisplaysOnOk W.Write.write_str_gives f.old result (Some (code_text code)) f.new }
 {
     write!(f, "\\u{{{code:x}}}")
 }
 
-/// Writes an octet of a text that isn't UTF-8: ASCII as a character, another one by its number.
+/// Writes an octet of a text that isn't UTF-8: ASCII as a character, others as hexadecimal codes.
 pub(crate) fn write_octet<W: fmt::Write>(f: &mut fmt::Formatter<W>, octet: u8) -> fmt::Result
     ensures { DisplaysOnOk W.Write.write_str_gives f.old result (Some (octet_text octet)) f.new }
 {
@@ -50,21 +50,21 @@ pub(crate) fn write_pair<W: fmt::Write>(f: &mut fmt::Formatter<W>, octet: u8) ->
     write!(f, "{octet:02x}")
 }
 
-/// Whether an octet is a character of ASCII that is written as it is.
+/// Returns whether an octet is an ASCII character that needs no escape.
 pub(crate) fn is_plain(octet: u8) -> bool
     ensures { result ≡ is_plain octet }
 {
     matches!(octet, b' '..=b'~') && octet != b'"' && octet != b'\\'
 }
 
-/// Whether a character is written as it is.
+/// Returns whether a character needs no escape.
 pub(crate) fn is_unescaped(character: char) -> bool
     ensures { result ≡ is_unescaped character }
 {
     character != '"' && character != '\\' && !is_hidden(character)
 }
 
-/// Whether a character is a control character, or one that can't be seen.
+/// Returns whether a character is a control character or invisible.
 fn is_hidden(character: char) -> bool
     ensures { result ≡ is_hidden character }
 {

@@ -1,8 +1,8 @@
-//! The characters of a text, which are cut where there are few columns.
+//! The characters of a text, cut to a number of columns.
 ghost use Rattle.std.specs.Prelude.{◌≡◌, ◌≤◌, length, take};
 ghost use Rattle.std.specs.Fmt.{char_count, is_char_start, take_chars};
 
-/// How many characters a text has.
+/// The number of characters of a text.
 pub(crate) fn characters(text: &[u8]) -> usize
     ensures { result ≡ char_count text.now }
 {
@@ -15,7 +15,7 @@ pub(crate) fn characters(text: &[u8]) -> usize
     number
 }
 
-/// Where so many characters of a text end.
+/// The offset after the first `characters` characters of a text.
 pub(crate) fn end_of(text: &[u8], characters: usize) -> usize
     ensures first { take result text.now ≡ take_chars characters text.now }
     ensures within { result ≤ length text.now }
@@ -32,7 +32,7 @@ pub(crate) fn end_of(text: &[u8], characters: usize) -> usize
     text.len()
 }
 
-/// Whether an octet begins a character of UTF-8 (RFC 3629 3).
+/// Returns whether an octet begins a character of UTF-8 (RFC 3629 3).
 fn begins_character(octet: u8) -> bool
     ensures { result ≡ is_char_start octet }
 {

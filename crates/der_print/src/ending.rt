@@ -1,6 +1,6 @@
-//! What follows the type on the line of an element.
+//! The part of an element's line after the type.
 ghost use Rattle.std.specs.Prelude.{◌≡◌, ℕ, IsTrue, List, None, Some, true};
-ghost use Rattle.der_walk.specs.Walked.{visited_of};
+ghost use Rattle.der_elements.specs.Walked.{visited_of};
 ghost use Rattle.der_print.specs.Lines.{IsEnding, IsValueSaid, limit_beside};
 ghost use Rattle.der_print.specs.Names.{table_of};
 ghost use Rattle.der_print.specs.Texts.{content_of};
@@ -10,18 +10,18 @@ use crate::remark::Remark;
 use crate::style::Limit;
 use crate::value::write_value;
 use der_base::rules::Rules;
-use der_walk::Element;
+use der_elements::Element;
 use oid_names::OwnNames;
 use std::fmt;
 
-/// Whether nothing follows the type on the line of an element, as on that of a SEQUENCE.
+/// Returns whether nothing follows the type on an element's line, as for a SEQUENCE.
 pub(crate) fn ends_with_type(element: &Element<'_>) -> bool
     ensures { IsTrue result → (element.now.holds ≡ None) × (element.now.constructed ≡ true) }
 {
     element.constructed && element.holds.is_none()
 }
 
-/// Writes what follows the type on the line of an element: its value, and what is said of one that breaks its type.
+/// Writes what follows the type on an element's line: the value, and a remark if it breaks its type.
 pub(crate) fn write_ending<'n, W: fmt::Write>(
     f: &mut fmt::Formatter<W>,
     element: &Element<'_>,
@@ -39,7 +39,7 @@ pub(crate) fn write_ending<'n, W: fmt::Write>(
     }
 }
 
-/// Writes a value, and what is said of one that breaks its type.
+/// Writes a value, and a remark if it breaks its type.
 fn write_value_said<'n, W: fmt::Write>(
     f: &mut fmt::Formatter<W>,
     element: &Element<'_>,
@@ -58,7 +58,7 @@ fn write_value_said<'n, W: fmt::Write>(
     }
 }
 
-/// How much is printed of a value that something is said of: half of the columns are for the remark.
+/// The limit of a value beside a remark, which takes half of the columns.
 fn beside(limit: Limit) -> Limit
     ensures { (remark : List ℕ) → result ≡ limit_beside limit (Some remark) }
 {

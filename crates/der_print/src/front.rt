@@ -1,7 +1,7 @@
-//! What precedes the value on the line of an element.
+//! The part of an element's line before the value.
 ghost use Rattle.std.specs.Prelude.{◌≡◌, ◌+◌, ◌*◌, ◌≤◌, ◌++◌, IfOk, OnOk, min};
-ghost use Rattle.der_walk.specs.TypeNames.{type_text};
-ghost use Rattle.der_walk.specs.Walked.{visited_of};
+ghost use Rattle.der_elements.specs.TypeNames.{type_text};
+ghost use Rattle.der_elements.specs.Walked.{visited_of};
 ghost use Rattle.der_print.specs.Lines.{at_left, field_text, front_text, length_text, letters, limit_of, margin_text};
 ghost use Rattle.der_print.specs.Lines.{most_spaces};
 ghost use Rattle.der_print.specs.Parts.{AddsPart};
@@ -10,16 +10,16 @@ ghost use Rattle.der_print.specs.Texts.{octets_in, row_text};
 use crate::line_octets::LineOctets;
 use crate::row::Row;
 use crate::style::Limit;
-use der_walk::{Element, MAX_DEPTH, TypeName};
+use der_elements::{Element, MAX_DEPTH, TypeName};
 use std::alloc::AllocError;
 
-/// Begins dim letters (ECMA-48 8.3.117), after an escape character.
+/// Begins dim text (ECMA-48 8.3.117), after an escape character.
 const DIM: &[u8] = b"[2m";
 
-/// Begins bold letters.
+/// Begins bold text.
 const BOLD: &[u8] = b"[1m";
 
-/// Ends special letters.
+/// Ends dim or bold text.
 const PLAIN: &[u8] = b"[0m";
 
 /// The columns for the offset.
@@ -34,14 +34,14 @@ const LENGTH: usize = 7;
 /// The columns of the numbers, up to 10 million.
 const NUMBERS: usize = 19;
 
-/// The most spaces that are put together with the numbers.
+/// The most spaces that are put at once with the numbers.
 const NEAR: usize = 40;
 
-/// The most spaces before the name of a field and the type. No element has more than 100 around it.
+/// The most spaces before the field name and the type: an element is inside 100 others at most.
 const MOST_SPACES: usize = 2 * MAX_DEPTH;
 
-/// Puts where an element begins, how many octets its header and its content have, two spaces for each element around
-/// it, the name of its field, and its type or tag, as much as fits in what is left of the line.
+/// Puts the offset, the octets of header and content, two spaces for each element around, the field name, and the type
+/// or tag, as far as the limit allows.
 pub(crate) fn put_front(
     line: &mut LineOctets,
     left: &mut Limit,
@@ -62,7 +62,7 @@ pub(crate) fn put_front(
     put_letters(line, colours, PLAIN)
 }
 
-/// Begins or ends special letters, if there are colours.
+/// Begins or ends dim or bold text, if there are colours.
 #[inline(always)]
 fn put_letters(line: &mut LineOctets, colours: bool, code: &[u8]) -> Result<(), AllocError>
     ensures { OnOk result (octets_in line.new ≡ octets_in line.old ++ letters colours code.now) }
@@ -73,7 +73,7 @@ fn put_letters(line: &mut LineOctets, colours: bool, code: &[u8]) -> Result<(), 
     Ok(())
 }
 
-/// Puts the offset and the numbers of octets, and two spaces for each element around.
+/// Puts the offset, the octets of header and content, and two spaces for each element around.
 fn put_margin(
     line: &mut LineOctets,
     left: &mut Limit,
@@ -98,7 +98,7 @@ fn put_margin(
     line.end_part(start, left)
 }
 
-/// How many spaces precede the name of a field and the type.
+/// The number of spaces before the field name and the type.
 fn spaces_of(depth: usize, limit: Limit) -> usize
     ensures spaces { result ≡ min (depth * 2) (most_spaces limit) }
     ensures few { result ≤ 200 }
@@ -122,7 +122,7 @@ fn put_length(row: &mut Row, length: Option<usize>)
     }
 }
 
-/// Puts the name of a field and a space, or nothing if the name is empty.
+/// Puts the field name and a space, or nothing if the name is empty.
 fn put_field(line: &mut LineOctets, left: &mut Limit, field: &str) -> Result<(), AllocError>
     ensures { let text = field_text field.now in
         OnOk result (AddsPart left.old text (octets_in line.old) (octets_in line.new) left.new) }

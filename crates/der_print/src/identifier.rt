@@ -10,13 +10,12 @@ use crate::style::Limit;
 use der_values::{ObjectIdentifier, U128Arcs};
 use std::fmt;
 
-/// An identifier with points between its arcs. One without an end, or with an arc of 2^128 and above, is printed by its
-/// octets.
+/// An identifier in dotted form. Its octets are printed if the last arc has no end, or an arc is 2^128 or more.
 #[derive(Clone, Copy)]
 pub struct Arcs<'a> {
     /// The content octets.
     pub octets: &'a [u8],
-    /// Whether it is a RELATIVE-OID.
+    /// True for a RELATIVE-OID.
     pub relative: bool,
 }
 
@@ -40,8 +39,8 @@ impl fmt::Display for Arcs<'_> {
     }
 }
 
-/// Arcs with points between them. (`ObjectIdentifier` is printed so too, but by an `Oid`, which may own memory, where
-/// it has no such arcs: then the page would need some.)
+/// Arcs in dotted form. `ObjectIdentifier` prints the same, but it may allocate an `Oid`, which the page has no memory
+/// for.
 #[derive(Clone, Copy)]
 struct Numbers<'a> {
     arcs: U128Arcs<'a>,
@@ -64,7 +63,7 @@ impl fmt::Display for Numbers<'_> {
     }
 }
 
-/// Writes arcs, each after a point.
+/// Writes arcs, each after a dot.
 fn write_further_arcs<W: fmt::Write>(f: &mut fmt::Formatter<W>, arcs: U128Arcs<'_>) -> fmt::Result
     ensures { DisplaysOnOk W.Write.write_str_gives f.old result (Some (pointed (u128_arcs_left arcs.entry))) f.new }
 {
@@ -74,7 +73,7 @@ fn write_further_arcs<W: fmt::Write>(f: &mut fmt::Formatter<W>, arcs: U128Arcs<'
     Ok(())
 }
 
-/// Writes an arc after a point.
+/// Writes an arc after a dot.
 fn write_arc<W: fmt::Write>(f: &mut fmt::Formatter<W>, arc: u128) -> fmt::Result
     ensures { DisplaysOnOk W.Write.write_str_gives f.old result (Some (codes "." ++ decimal arc)) f.new }
 {

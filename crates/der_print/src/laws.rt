@@ -1,8 +1,8 @@
-//! Laws of lines. Each function has a law as its contract and an empty body.
+//! A law of lines. Its function's contract is the law; its body is empty.
 ghost use Rattle.der_print.specs.Laws.{LinesFit};
 
-/// A line has no more characters than its style has columns, if it limits them, but for the line's end and what begins
-/// and ends special letters.
+/// If the style limits the columns, a line has no more characters, besides the line end and the codes of dim and bold
+/// text.
 pub fn lines_fit()
     ensures { LinesFit }
 {}

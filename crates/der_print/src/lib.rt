@@ -1,4 +1,4 @@
-//! Elements as text for people: a line for each, with its offset, its type and its value.
+//! Prints elements for people: a line each, with the offset, the type and the value.
 #![tactic(auto)]
 
 mod bits;

@@ -1,6 +1,6 @@
 //! The line of an element.
 ghost use Rattle.std.specs.Prelude.{OnOk};
-ghost use Rattle.der_walk.specs.Walked.{visited_of};
+ghost use Rattle.der_elements.specs.Walked.{visited_of};
 ghost use Rattle.der_print.specs.Lines.{AddsFieldLine, AddsLine, AddsLineOf, AddsNamedLine};
 ghost use Rattle.der_print.specs.Names.{table_of};
 ghost use Rattle.der_print.specs.Texts.{content_of};
@@ -8,14 +8,14 @@ ghost use Rattle.der_print.specs.Texts.{content_of};
 use crate::front::put_front;
 use crate::room::Room;
 use crate::style::Style;
-use der_walk::Element;
+use der_elements::Element;
 use oid_names::OwnNames;
 use std::io;
 use std::io::Write;
 
-/// Writes the line of an element: where it begins, how many octets its header and its content have, its type, two
-/// columns further in for each element around it, and its value. If `style` limits the columns, the line has no more
-/// characters. It is made in `room`, which serves the next line too.
+/// Writes an element's line: its offset, the octets of its header and content, its type, indented by two columns for
+/// each element around it, and its value. If `style` limits the columns, the line has no more characters. `room` is a
+/// buffer that the next line can use again.
 pub fn write_line<W: Write>(
     out: &mut W,
     room: &mut Room,
@@ -28,8 +28,8 @@ pub fn write_line<W: Write>(
     write_line_of(out, room, element, "", style, None)
 }
 
-/// Writes the line of an element as `write_line` does, with the name of its field and a space before its type. An empty
-/// name adds nothing. The name has no line end: it is written as it is.
+/// As `write_line`, with the field name and a space before the type. An empty name adds nothing. The name is written as
+/// it is, so it must not have a line end.
 pub fn write_field_line<W: Write>(
     out: &mut W,
     room: &mut Room,
@@ -43,8 +43,7 @@ pub fn write_field_line<W: Write>(
     write_line_of(out, room, element, field, style, None)
 }
 
-/// Writes the line of an element as `write_line` does. The name of an OBJECT IDENTIFIER is that of a table of one's
-/// own, if there is one and it has the identifier, or else the built-in one.
+/// As `write_line`. `own` names an OBJECT IDENTIFIER before the built-in table does.
 pub fn write_named_line<'n, W: Write>(
     out: &mut W,
     room: &mut Room,
@@ -58,8 +57,7 @@ pub fn write_named_line<'n, W: Write>(
     write_line_of(out, room, element, "", style, own)
 }
 
-/// Writes the line of an element with the name of its field as `write_field_line` does, and the name of an OBJECT
-/// IDENTIFIER by a table of one's own as `write_named_line` does.
+/// As `write_field_line` and `write_named_line` together.
 pub fn write_line_of<'n, W: Write>(
     out: &mut W,
     room: &mut Room,

@@ -1,39 +1,39 @@
-//! The octets of a line, which grow at their end.
+//! The octets of a line.
 ghost use Rattle.std.specs.Prelude.{◌≡◌, ◌≤◌, [], ◌∷◌, ◌++◌, IfOk, IfSome, OnOk, codes, drop, length, take};
 ghost use Rattle.der_base.specs.Pretty.{spaces};
 ghost use Rattle.der_print.specs.Cuts.{cut, in_columns};
 ghost use Rattle.der_print.specs.Names.{table_of};
 ghost use Rattle.der_print.specs.Parts.{AddsEnding, AddsPart, GrowsByEnding};
 ghost use Rattle.der_print.specs.Texts.{content_of, octets_in};
-ghost use Rattle.der_walk.specs.Walked.{visited_of};
+ghost use Rattle.der_elements.specs.Walked.{visited_of};
 
 use crate::cut::{characters, end_of};
 use crate::ending::{ends_with_type, write_ending};
 use crate::shown::are_shown;
 use crate::style::Limit;
-use der_walk::Element;
+use der_elements::Element;
 use oid_names::OwnNames;
 use std::alloc::{AllocError, Global};
 use std::fmt;
 use std::fmt::Write;
 
-/// The points after the first characters of a text.
+/// The dots after a cut text.
 const POINTS: &[u8] = b"...";
 
-/// As many spaces as an indentation has at most.
+/// The most spaces of an indentation.
 const SPACES: &[u8; 200] = &[b' '; 200];
 
 /// The escape character.
 const ESCAPE: u8 = 0x1b;
 
-/// The octets of a line, which grow at their end.
+/// The octets of a line.
 #[derive(Drop)]
 pub(crate) struct LineOctets {
     octets: Vec<u8>,
 }
 
 impl LineOctets {
-    /// No octets.
+    /// An empty line.
     pub(crate) fn new(alloc: Global) -> LineOctets
         ensures { octets_in result ≡ [] }
     {
@@ -42,7 +42,7 @@ impl LineOctets {
         }
     }
 
-    /// Takes all octets away, and keeps their memory.
+    /// Clears the line and keeps its memory.
     pub(crate) fn clear(&mut self)
         ensures { octets_in self.new ≡ [] }
     {
@@ -56,7 +56,7 @@ impl LineOctets {
         self.octets.as_slice()
     }
 
-    /// How many they are.
+    /// The number of octets.
     pub(crate) fn len(&self) -> usize
         ensures { result ≡ length (octets_in self.now) }
     {
@@ -70,7 +70,7 @@ impl LineOctets {
         self.octets.extend_from_slice(octets)
     }
 
-    /// Puts octets at the end. To push one costs less than to copy a slice.
+    /// Puts octets at the end. Pushing one costs less than copying a slice.
     fn put_few(&mut self, octets: &[u8]) -> Result<(), AllocError>
         ensures { OnOk result (octets_in self.new ≡ octets_in self.old ++ octets.now) }
     {
@@ -88,7 +88,7 @@ impl LineOctets {
         Ok(())
     }
 
-    /// Puts so many spaces at the end, at most 200.
+    /// Puts spaces at the end, at most 200.
     pub(crate) fn put_spaces(&mut self, count: usize) -> Result<(), AllocError>
         requires { count ≤ 200 }
         ensures { OnOk result (octets_in self.new ≡ octets_in self.old ++ spaces count) }
@@ -108,7 +108,7 @@ impl LineOctets {
         self.put(octets)
     }
 
-    /// Puts a part of the line at the end, as much of it as fits in what is left of the line.
+    /// Puts a part at the end, as far as the limit allows.
     pub(crate) fn put_part(&mut self, text: &[u8], left: &mut Limit) -> Result<(), AllocError>
         ensures { OnOk result (AddsPart left.old text.now (octets_in self.old) (octets_in self.new) left.new) }
     {
@@ -117,7 +117,7 @@ impl LineOctets {
         self.end_part(start, left)
     }
 
-    /// Puts a word and a space at the end, as much of them as fits in what is left of the line.
+    /// Puts a word and a space at the end, as far as the limit allows.
     pub(crate) fn put_word(&mut self, word: &[u8], left: &mut Limit) -> Result<(), AllocError>
         ensures { OnOk result
             (AddsPart left.old (word.now ++ codes " ") (octets_in self.old) (octets_in self.new) left.new) }
@@ -139,8 +139,8 @@ impl LineOctets {
         }
     }
 
-    /// Puts what follows the type on the line of an element at the end, as much of it as fits. An error if there is no
-    /// memory, or if a control character of ASCII is in that: so it is on one line.
+    /// Puts what follows the type on an element's line, as far as the limit allows. An error if memory runs out, or if
+    /// it has a control character of ASCII, so the line stays one line.
     pub(crate) fn put_ending<'n>(
         &mut self,
         element: &Element<'_>,
@@ -162,7 +162,7 @@ impl LineOctets {
         self.end_part(start, &mut left)
     }
 
-    /// Puts what follows the type on the line of an element at the end.
+    /// Puts what follows the type on an element's line at the end.
     fn write_ending<'n>(
         &mut self,
         element: &Element<'_>,
@@ -181,8 +181,7 @@ impl LineOctets {
         }
     }
 
-    /// Ends the last part of the line, which begins at an offset: as much of it stays as fits in what is left of the
-    /// line.
+    /// Ends the last part of the line, from `start` on, and cuts it to the limit.
     #[inline(always)]
     pub(crate) fn end_part(&mut self, start: usize, left: &mut Limit) -> Result<(), AllocError>
         ensures { let old = octets_in self.old in
@@ -194,7 +193,7 @@ impl LineOctets {
         Ok(())
     }
 
-    /// Ends the last part of the line, which begins at an offset, where so many columns are left.
+    /// Ends the last part of the line, from `start` on, with this number of columns left.
     #[inline(never)]
     fn end_columns(&mut self, start: usize, columns: usize) -> Result<Limit, AllocError>
         ensures { let old = octets_in self.old in
@@ -205,7 +204,7 @@ impl LineOctets {
         Ok(Limit::Columns(columns.saturating_sub(part)))
     }
 
-    /// Cuts the octets from an offset on to so many columns.
+    /// Cuts the octets from an offset on to this number of columns.
     fn cut(&mut self, start: usize, columns: usize) -> Result<(), AllocError>
         ensures { let old = octets_in self.old in OnOk result
             (octets_in self.new ≡ take start old ++ in_columns columns (drop start old)) }

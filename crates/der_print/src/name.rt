@@ -6,7 +6,7 @@ use crate::style::Limit;
 use crate::text::{MOST, write_text};
 use std::fmt;
 
-/// A name, with escapes as in quotes. If only its first characters are printed, three points follow.
+/// A name, escaped as in quotes. If it is cut, three dots follow.
 #[derive(Clone, Copy)]
 pub(crate) struct Name<'a> {
     pub text: &'a str,
@@ -28,8 +28,8 @@ impl fmt::Display for Name<'_> {
     }
 }
 
-/// How many characters are printed of a name of so many octets, which has no more characters. Where columns are counted
-/// the end of the line is cut.
+/// The number of characters to print of a name with at most `number` characters. If columns are limited, the whole line
+/// is cut later.
 fn printed_of_name(number: usize, limit: Limit) -> usize
     ensures { result ≡ printed_of_name limit number }
 {

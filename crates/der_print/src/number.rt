@@ -12,10 +12,10 @@ use std::fmt;
 /// The columns of `0x`.
 const PREFIX: usize = 2;
 
-/// The columns of what follows the digits of a negative number.
+/// The columns of the text after the digits of a negative number.
 const NEGATIVE: usize = 32;
 
-/// A number in two's complement: in decimal from -2^63 to 2^64-1, else in hexadecimal digits.
+/// A number in two's complement: decimal from -2^63 to 2^64-1, else hexadecimal.
 #[derive(Clone, Copy)]
 pub struct Number<'a> {
     /// The content octets.
@@ -59,7 +59,7 @@ pub(crate) fn write_decimal<W: fmt::Write, N: Integer>(
     f.write_str(digits.format(number))
 }
 
-/// The octets without one that is 0 before others.
+/// The octets without a leading zero before others.
 fn without_leading_zero(octets: &[u8]) -> &[u8]
     ensures { result.now ≡ without_leading_zero octets.now }
 {

@@ -1,4 +1,4 @@
-//! Octets in hexadecimal digits.
+//! Octets in hexadecimal.
 ghost use Rattle.std.specs.Prelude.{◌≡◌, Some};
 ghost use Rattle.std.specs.Fmt.{DisplaysOnOk};
 ghost use Rattle.hex.specs.Hex.{encode_lower};
@@ -8,28 +8,28 @@ use crate::style::Limit;
 use crate::text::write_number;
 use std::{fmt, str};
 
-/// The most octets that are printed whole where long values are cut.
+/// The most octets that are printed whole if long values are cut.
 const WHOLE: usize = 32;
 
-/// How many octets are printed of more.
+/// The number of octets that are printed of a longer value.
 const FRONT: usize = 20;
 
 /// The column of the space before the digits.
 const SPACE: usize = 1;
 
-/// The columns of what is beside the digits of a part, as in ` 3003...`.
+/// The columns beside the digits of a cut value, such as ` 3003...`.
 const POINTS: usize = 4;
 
-/// The columns that are kept for what is beside them with the number of octets, as in ` 3003... (1234 octets)`.
+/// The columns beside the digits of a cut value with its size, such as ` 3003... (1234 octets)`.
 const ENDING: usize = 18;
 
-/// The least columns in which the number of octets is printed.
+/// The fewest columns for a cut value with its size.
 const LEAST: usize = 26;
 
-/// So many octets are written at once.
+/// The octets that are written at once.
 const MANY: usize = 32;
 
-/// Octets in hexadecimal digits. Where not all of them are printed, three points and their number follow.
+/// Octets in hexadecimal. If they are cut, three dots and their number follow.
 #[derive(Clone, Copy)]
 pub struct Hex<'a> {
     pub octets: &'a [u8],
@@ -54,7 +54,7 @@ impl fmt::Display for Hex<'_> {
     }
 }
 
-/// How many of so many octets are printed.
+/// The number of octets to print.
 pub(crate) fn printed_octets(number: usize, limit: Limit) -> usize
     ensures { result ≡ printed_octets limit number }
 {
@@ -68,7 +68,7 @@ pub(crate) fn printed_octets(number: usize, limit: Limit) -> usize
     }
 }
 
-/// Writes octets in hexadecimal digits.
+/// Writes octets in hexadecimal.
 fn write_digits<W: fmt::Write>(f: &mut fmt::Formatter<W>, octets: &[u8]) -> fmt::Result
     ensures { DisplaysOnOk W.Write.write_str_gives f.old result (Some (encode_lower octets.now)) f.new }
 {

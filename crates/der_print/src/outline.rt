@@ -1,18 +1,18 @@
-//! The line of an element without its value.
+//! An element's line without its value.
 ghost use Rattle.std.specs.Prelude.{OnOk};
 ghost use Rattle.std.specs.Io.KnownBytes.{Appends};
-ghost use Rattle.der_walk.specs.Walked.{visited_of};
+ghost use Rattle.der_elements.specs.Walked.{visited_of};
 ghost use Rattle.der_print.specs.Lines.{outline};
 
 use crate::front::put_front;
 use crate::room::Room;
 use crate::style::Style;
-use der_walk::Element;
+use der_elements::Element;
 use std::io;
 use std::io::Write;
 
-/// Writes the line of an element as `write_field_line` does, with this text in place of what follows the type: of its
-/// content octets nothing is written. The text has no line end, and is written as it is.
+/// As `write_field_line`, with `text` instead of what follows the type; the content octets aren't written. The text is
+/// written as it is, so it must not have a line end.
 pub fn write_outline<W: Write>(
     out: &mut W,
     room: &mut Room,

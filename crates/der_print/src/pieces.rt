@@ -1,4 +1,4 @@
-//! The characters of a string, one after another.
+//! Splits strings into characters.
 ghost use Rattle.std.specs.Prelude.{◌≡◌, ◌+◌, ◌*◌, ◌&&◌, ◌∷◌, None, Some, if◌then◌else◌, map};
 ghost use Rattle.std.specs.Char.Utf16.{is_high_surrogate, is_low_surrogate, surrogate_pair_char, utf16_lossy_chars};
 ghost use Rattle.std.specs.Str.{chars};
@@ -15,7 +15,7 @@ const UNIVERSAL_STRING: u32 = 28;
 /// The tag number of a BMPString.
 const BMP_STRING: u32 = 30;
 
-/// What is left of a string, by how its characters are written.
+/// The rest of a string, by the encoding of its characters.
 #[derive(Clone, Copy)]
 pub(crate) enum Characters<'a> {
     Utf8(&'a str),
@@ -34,7 +34,7 @@ pub(crate) enum Piece {
     Octet(u8),
 }
 
-/// The characters of a string, by the number of its type.
+/// The characters of a string with this type number.
 pub(crate) fn characters_of(number: u32, octets: &[u8]) -> Characters<'_>
     ensures { pieces_left result ≡ pieces number octets.now }
 {
@@ -48,7 +48,7 @@ pub(crate) fn characters_of(number: u32, octets: &[u8]) -> Characters<'_>
     }
 }
 
-/// The first character, and what is left after it.
+/// The first character and the rest.
 pub(crate) fn next_piece(characters: Characters<'_>) -> Option<(Piece, Characters<'_>)>
     ensures { BeginsWith result (pieces_left characters.entry) }
 {
@@ -103,7 +103,7 @@ fn next_of_units(octets: &[u8]) -> Option<(Piece, Characters<'_>)>
     }
 }
 
-/// The character that begins with a unit of UTF-16, and what is left after it.
+/// The character that begins with this unit of UTF-16, and the rest.
 fn next_of_unit(unit: u16, rest: &[u8]) -> (Piece, Characters<'_>)
     ensures { map (λ c. Piece.Character c) (utf16_lossy_chars (unit ∷ units rest.now))
         ≡ result.0 ∷ pieces_left result.1 }
@@ -118,14 +118,14 @@ fn next_of_unit(unit: u16, rest: &[u8]) -> (Piece, Characters<'_>)
     }
 }
 
-/// The unit of UTF-16 that is two octets.
+/// The unit of UTF-16 in two octets.
 fn unit_of(high: u8, low: u8) -> u16
     ensures { result ≡ high * 256 + low }
 {
     u16::from(high) * 256 + u16::from(low)
 }
 
-/// The character that two units of UTF-16 are.
+/// The character of two units of UTF-16.
 fn pair_of(high: u16, low: u16) -> Option<char>
     ensures { result ≡ (if is_high_surrogate high && is_low_surrogate low
         then Some (surrogate_pair_char high low) else None) }

@@ -9,8 +9,7 @@ use crate::style::Limit;
 use crate::text::are_visible;
 use std::{fmt, str};
 
-/// A REAL: 0 and the special values as X.680 writes them (21.6), a decimal form as it is, or the octets of another
-/// one.
+/// A REAL: 0 and special values in the notation of X.680 21.6, a decimal form as it is, any other as octets.
 #[derive(Clone, Copy)]
 pub struct Real<'a> {
     /// The content octets.
@@ -53,7 +52,7 @@ fn write_special<W: fmt::Write>(f: &mut fmt::Formatter<W>, octet: u8) -> fmt::Re
     }
 }
 
-/// Whether octets are a decimal form (X.690 8.5.8) that is printed as it is, behind the octet of this form.
+/// Returns whether octets are a decimal form (X.690 8.5.8) that is printed as it is. `form` is their first octet.
 fn is_shown_decimal(form: u8, octets: &[u8], limit: Limit) -> bool
     ensures { result ≡ is_shown_decimal limit form octets.now }
 {

@@ -1,30 +1,29 @@
-//! A value that breaks its type.
+//! Remarks on values that break their type.
 ghost use Rattle.std.specs.Prelude.{◌≡◌, Some, find, not, true};
 ghost use Rattle.std.specs.Fmt.{DisplaysOnOk};
 ghost use Rattle.der_base.specs.Text.{is_printable};
 ghost use Rattle.std.specs.Option.{option_map};
 ghost use Rattle.der_print.specs.Remarks.{IsRemark, fault_text, is_of_type, remark_text};
 ghost use Rattle.der_print.specs.Texts.{content_of};
-ghost use Rattle.der_walk.specs.Walked.{visited_of};
+ghost use Rattle.der_elements.specs.Walked.{visited_of};
 
 use crate::characters::write_octet;
 use crate::value::octets_or_none;
 use der_base::rules::Rules;
 use der_contents::{ContentError, check_content};
-use der_walk::{Element, fault_inside};
+use der_elements::{Element, fault_inside};
 use std::fmt;
 
-/// What is said of an element besides its value.
+/// A remark on an element, besides its value.
 #[derive(Clone, Copy)]
 pub enum Remark<'a> {
     /// The value breaks its type.
     Rule(BrokenRule<'a>),
-    /// The content of a string is a SEQUENCE or SET by its header, and isn't one: where in the input the fault is.
+    /// The content of a string has the header of a SEQUENCE or SET and isn't one. The offset of the error in the input.
     Inside(usize),
 }
 
-/// What is said of a value that breaks its type: the rule, and of a text also the first octet outside of the type's
-/// character set.
+/// The rule that a value breaks, and the first octet of a text outside its character set.
 #[derive(Clone, Copy)]
 pub struct BrokenRule<'a> {
     error: ContentError,
@@ -35,8 +34,8 @@ pub struct BrokenRule<'a> {
 }
 
 impl<'a> Remark<'a> {
-    /// What is said of an element: the first rule of BER that its content breaks, if it is one that breaks its type,
-    /// and else where the list inside a string is at fault, if none of it is visited.
+    /// The remark on an element: the first rule of BER that its content breaks, or the error inside a string whose
+    /// elements aren't visited.
     #[inline(always)]
     pub fn on(element: &Element<'a>) -> Option<Remark<'a>>
         ensures { IsRemark (visited_of element.now) (content_of element.now) (option_map remark_text result) }
@@ -54,7 +53,7 @@ impl<'a> Remark<'a> {
     }
 }
 
-/// The first rule of BER that the content of an element breaks.
+/// The first rule of BER that an element's content breaks.
 fn on_content<'a>(element: &Element<'a>) -> Option<Remark<'a>>
     requires { element.now.breaks_its_type ≡ true }
     ensures { IsRemark (visited_of element.now) (content_of element.now) (option_map remark_text result) }
@@ -99,7 +98,7 @@ impl fmt::Display for BrokenRule<'_> {
     }
 }
 
-/// Writes the octet that isn't of the type.
+/// Writes the octet that the type doesn't allow.
 fn write_fault<W: fmt::Write>(f: &mut fmt::Formatter<W>, fault: Option<u8>) -> fmt::Result
     ensures { DisplaysOnOk W.Write.write_str_gives f.old result (Some (fault_text fault)) f.new }
 {
@@ -112,7 +111,7 @@ fn write_fault<W: fmt::Write>(f: &mut fmt::Formatter<W>, fault: Option<u8>) -> f
     }
 }
 
-/// The first octet that isn't of the type.
+/// The first octet that the type doesn't allow.
 fn fault_in(number: u32, octets: &[u8]) -> Option<u8>
     ensures { result ≡ find (λ b. not (is_of_type number b)) octets.now }
 {
@@ -122,7 +121,7 @@ fn fault_in(number: u32, octets: &[u8]) -> Option<u8>
         .find(|octet| !is_of_type(number, *octet))
 }
 
-/// Whether an octet may be in a string of the type with this number.
+/// Returns whether a string of this type may have the octet.
 fn is_of_type(number: u32, octet: u8) -> bool
     ensures { result ≡ is_of_type number octet }
 {
@@ -135,7 +134,7 @@ fn is_of_type(number: u32, octet: u8) -> bool
     }
 }
 
-/// Whether an octet may be in a PrintableString (X.680 41.4).
+/// Returns whether a PrintableString may have the octet (X.680 41.4).
 fn is_printable(octet: u8) -> bool
     ensures { result ≡ is_printable octet }
 {

@@ -1,18 +1,18 @@
-//! Memory for a line.
+//! The buffer of a line.
 ghost use Rattle.std.specs.Prelude.{◌≡◌, []};
 ghost use Rattle.der_print.specs.Texts.{octets_in};
 
 use crate::line_octets::LineOctets;
 use std::alloc::Global;
 
-/// Memory for a line, which the next one takes again.
+/// The buffer of a line, which the next line can use again.
 #[derive(Drop)]
 pub struct Room {
     pub(crate) line: LineOctets,
 }
 
 impl Room {
-    /// No memory, until a line needs some.
+    /// An empty buffer, which allocates when a line needs it.
     pub fn new(alloc: Global) -> Room
         ensures { octets_in result.line ≡ [] }
     {

@@ -1,18 +1,18 @@
-//! Texts that are written from their end.
+//! Texts that are written backwards.
 ghost use Rattle.std.specs.Prelude.{◌≡◌, ◌+◌, ◌<◌, ◌≤◌, [], ◌∷◌, ◌++◌, decimal, length, take};
 ghost use Rattle.der_base.specs.Pretty.{spaces};
 ghost use Rattle.der_print.specs.Lines.{at_left, at_right};
 
 use itoa::write_digits;
 
-/// The most octets that a text has.
+/// The most octets of a text.
 const ROOM: usize = 104;
 
-/// A text that is written from its end. The octets before it are spaces.
+/// A text that is written backwards. The octets before it are spaces.
 #[derive(Drop)]
 pub(crate) struct Row {
     octets: [u8; ROOM],
-    /// Where the text begins.
+    /// The offset of the text.
     start: usize,
     ghost within: { start ≤ 104 },
     ghost free: { take start octets ≡ spaces start },
@@ -49,7 +49,7 @@ impl Row {
         self.octets[self.start] = octet;
     }
 
-    /// Puts so many spaces before the text.
+    /// Puts spaces before the text.
     pub(crate) fn put_spaces(&mut self, count: usize)
         requires { count ≤ self.old.start }
         ensures text { row_text self.new ≡ spaces count ++ row_text self.old }
@@ -58,7 +58,7 @@ impl Row {
         self.start -= count;
     }
 
-    /// Puts a number before the text, and spaces before it up to so many columns.
+    /// Puts a number before the text, right-aligned in these columns.
     pub(crate) fn put_at_right(&mut self, columns: usize, number: usize)
         requires { (columns ≤ 20) × (20 ≤ self.old.start) }
         ensures text { row_text self.new ≡ at_right columns (decimal number) ++ row_text self.old }
@@ -69,7 +69,7 @@ impl Row {
         self.start = start.min(end - columns);
     }
 
-    /// Puts a number before the text, with spaces after it up to so many columns.
+    /// Puts a number before the text, left-aligned in these columns.
     pub(crate) fn put_number_at_left(&mut self, columns: usize, number: usize)
         requires { (columns ≤ 20) × (20 ≤ self.old.start) }
         ensures text { row_text self.new ≡ at_left columns (decimal number) ++ row_text self.old }
@@ -79,7 +79,7 @@ impl Row {
         self.start = write_digits(number as u64, &mut self.octets, end);
     }
 
-    /// Puts octets before the text, with spaces after them up to so many columns.
+    /// Puts octets before the text, left-aligned in these columns.
     pub(crate) fn put_at_left(&mut self, columns: usize, octets: &[u8])
         requires { (columns ≤ 20) × (length octets.now ≤ 20) × (20 ≤ self.old.start) }
         ensures text { row_text self.new ≡ at_left columns octets.now ++ row_text self.old }
@@ -91,7 +91,7 @@ impl Row {
     }
 }
 
-/// How many decimal digits a number has.
+/// The number of decimal digits.
 fn digits_of(number: usize) -> usize
     ensures { result ≡ length (decimal number) }
 {

@@ -1,9 +1,9 @@
-//! Text on one line.
+//! Texts without control characters.
 ghost use Rattle.std.specs.Prelude.{◌≡◌};
 ghost use Rattle.std.specs.List.{list_all};
 ghost use Rattle.der_print.specs.Shown.{is_shown};
 
-/// Whether no octet is a control character of ASCII. All are read, since that takes many at once.
+/// Returns whether no octet is a control character of ASCII. It reads all octets, many at once, which is faster.
 pub(crate) fn are_shown(octets: &[u8]) -> bool
     ensures { result ≡ list_all is_shown octets.now }
 {
@@ -14,7 +14,7 @@ pub(crate) fn are_shown(octets: &[u8]) -> bool
     shown
 }
 
-/// Whether an octet isn't a control character of ASCII.
+/// Returns whether an octet isn't a control character of ASCII.
 fn is_shown(octet: u8) -> bool
     ensures { result ≡ is_shown octet }
 {

@@ -5,7 +5,7 @@ ghost use Rattle.std.specs.Option.{option_map};
 
 use std::fmt;
 
-/// Writes a value after a space, which costs less than a format of both.
+/// Writes a value after a space. One format for both would cost more.
 pub(crate) fn write_spaced<W: fmt::Write, D: fmt::Display + Drop>(
     f: &mut fmt::Formatter<W>,
     value: D,

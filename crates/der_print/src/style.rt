@@ -1,21 +1,21 @@
-//! How much is printed of a value, and in which colours.
+//! How much of a value is printed, and whether in colours.
 ghost use Rattle.std.specs.Prelude.{◌≡◌};
 
-/// How much is printed of a long value.
+/// How much of a long value is printed.
 #[derive(Clone, Copy, Debug, PartialEq)]
 pub enum Limit {
     /// All of it.
     Whole,
-    /// Its first octets or characters, a fixed number.
+    /// The first octets or characters, a fixed number.
     Front,
-    /// As much as fits in so many columns.
+    /// As much as fits in these columns.
     Columns(usize),
 }
 
 impl Limit {
     ghost use Rattle.der_print.specs.Cuts.{limit_without};
 
-    /// The limit where so many columns are needed for something else.
+    /// The limit if other text takes these columns.
     pub(crate) fn without(self, columns: usize) -> Limit
         ensures { result ≡ limit_without self columns }
     {
@@ -29,7 +29,7 @@ impl Limit {
 /// How elements are printed.
 #[derive(Clone, Copy, Debug, PartialEq)]
 pub struct Style {
-    /// How much is printed of a value. Columns are those of the whole line.
+    /// How much of a value is printed. Columns are those of the whole line.
     pub limit: Limit,
     /// Whether colours are used.
     pub colours: bool,

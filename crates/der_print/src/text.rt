@@ -1,4 +1,4 @@
-//! The texts of the string types (X.690 8.23).
+//! The texts of string types (X.690 8.23).
 ghost use Rattle.std.specs.Prelude.{◌≡◌, Some, map};
 ghost use Rattle.std.specs.Fmt.{DisplaysOnOk};
 ghost use Rattle.std.specs.List.{list_all};
@@ -16,27 +16,27 @@ use crate::pieces::{Characters, Piece, characters_of, next_piece};
 use crate::style::Limit;
 use std::fmt;
 
-/// The most characters that are printed where long values are cut.
+/// The most characters that are printed if long values are cut.
 pub(crate) const MOST: usize = 120;
 
-/// The columns of the space before a text, and of its quotes.
+/// The columns of the space before a text and of its quotes.
 const QUOTES: usize = 3;
 
-/// The columns of what is beside the characters of a part, as in `"..."`.
+/// The columns beside the characters of a cut text: `"..."`.
 const POINTS: usize = 6;
 
-/// The columns that are kept for what is beside them with the number of octets, as in `"..." (1234 octets)`.
+/// The columns beside the characters of a cut text with its size, such as `"..." (1234 octets)`.
 const ENDING: usize = 20;
 
-/// The least columns in which the number of octets is printed.
+/// The fewest columns for a cut text with its size.
 const LEAST: usize = 30;
 
-/// A string in quotes. If only its first characters are printed, three points and the number of its octets follow.
+/// A string in quotes. If it is cut, three dots and the number of its octets follow.
 #[derive(Clone, Copy)]
 pub struct Quoted<'a> {
     /// The content octets.
     pub octets: &'a [u8],
-    /// The tag number of the type: a BMPString has two octets a character, and a UniversalString four.
+    /// The tag number of the type. A BMPString has two octets for a character, and a UniversalString four.
     pub number: u32,
     pub limit: Limit,
 }
@@ -59,7 +59,7 @@ impl fmt::Display for Quoted<'_> {
     }
 }
 
-/// The characters of a string as they are.
+/// The characters of a string, without quotes or escapes.
 #[derive(Clone, Copy)]
 pub struct Unquoted<'a> {
     /// The content octets.
@@ -94,7 +94,7 @@ fn write_plain<W: fmt::Write>(f: &mut fmt::Formatter<W>, piece: Piece) -> fmt::R
     }
 }
 
-/// The most characters that are printed of so many octets, which no text has more of.
+/// The most characters to print of a text of `number` octets.
 fn printed_characters(number: usize, limit: Limit) -> usize
     ensures { result ≡ printed_characters limit number }
 {
@@ -107,7 +107,7 @@ fn printed_characters(number: usize, limit: Limit) -> usize
     }
 }
 
-/// Writes how many octets a value has of which a part is printed, where there are at least so many columns for both.
+/// Writes the size of a cut value, if there are at least `least` columns.
 pub(crate) fn write_number<W: fmt::Write>(
     f: &mut fmt::Formatter<W>,
     number: usize,
@@ -122,21 +122,21 @@ pub(crate) fn write_number<W: fmt::Write>(
     }
 }
 
-/// Whether octets are at least two characters of ASCII that can be printed.
+/// Returns whether octets are at least two printable ASCII characters.
 pub fn is_printable_ascii(octets: &[u8]) -> bool
     ensures { result ≡ is_ascii_text octets.now }
 {
     octets.len() > 1 && are_visible(octets)
 }
 
-/// Whether octets are characters of ASCII that can be printed.
+/// Returns whether octets are printable ASCII.
 pub(crate) fn are_visible(octets: &[u8]) -> bool
     ensures { result ≡ list_all is_visible octets.now }
 {
     octets.iter().all(|octet| *octet >= b' ' && *octet <= b'~')
 }
 
-/// Writes the first of some characters. Returns whether those are all.
+/// Writes the first characters. Returns whether they are all.
 fn write_first<W: fmt::Write>(
     f: &mut fmt::Formatter<W>,
     characters: Characters<'_>,
@@ -151,7 +151,7 @@ fn write_first<W: fmt::Write>(
     }
 }
 
-/// Writes the first characters of a text. Returns whether those are all.
+/// Writes the first characters of a text. Returns whether they are all.
 pub(crate) fn write_text<W: fmt::Write>(
     f: &mut fmt::Formatter<W>,
     text: &str,
@@ -167,7 +167,7 @@ pub(crate) fn write_text<W: fmt::Write>(
     write_characters(f, text, most)
 }
 
-/// Writes the first characters of a text, one by one. Returns whether those are all.
+/// Writes the first characters of a text one by one. Returns whether they are all.
 fn write_characters<W: fmt::Write>(
     f: &mut fmt::Formatter<W>,
     text: &str,
@@ -187,14 +187,14 @@ fn write_characters<W: fmt::Write>(
     Ok(true)
 }
 
-/// Whether the characters of a text are written as they are. Most texts are ASCII, of which it is found at once.
+/// Returns whether no character of a text needs an escape. Most texts are ASCII, which is tested at once.
 fn is_unescaped_text(text: &str) -> bool
     ensures { result ≡ list_all is_unescaped (chars text.now) }
 {
     are_plain(text.as_bytes()) || are_unescaped(text)
 }
 
-/// Whether octets are ASCII that is written as it is. All are read, since that takes many at once.
+/// Returns whether octets are ASCII without escapes. It reads all octets, many at once, which is faster.
 fn are_plain(octets: &[u8]) -> bool
     ensures { result ≡ list_all is_plain octets.now }
 {
@@ -205,14 +205,14 @@ fn are_plain(octets: &[u8]) -> bool
     plain
 }
 
-/// The same, character by character.
+/// Returns whether no character needs an escape, character by character.
 fn are_unescaped(text: &str) -> bool
     ensures { result ≡ list_all is_unescaped (chars text.now) }
 {
     text.chars().all(|character| is_unescaped(character))
 }
 
-/// Writes the first of some characters, one by one. Returns whether those are all.
+/// Writes the first characters one by one. Returns whether they are all.
 fn write_pieces<W: fmt::Write>(
     f: &mut fmt::Formatter<W>,
     characters: Characters<'_>,

@@ -1,4 +1,4 @@
-//! UTCTime and GeneralizedTime as people write them.
+//! UTCTime and GeneralizedTime in readable form.
 ghost use Rattle.std.specs.Prelude.{◌≡◌, ◌||◌, Some, codes, if◌then◌else◌, int_lt, pos};
 ghost use Rattle.std.specs.Fmt.{DisplaysOnOk};
 ghost use Rattle.der_base.specs.Time.{at_least_digits, fraction_text, or_zero, without_last_zeros};
@@ -7,7 +7,7 @@ ghost use Rattle.der_print.specs.Values.{full_year, zone_text};
 use der_base::time::{ASN1DateTime, ASN1TimeZone};
 use std::fmt;
 
-/// A moment, as `2026-11-24 22:37:06 UTC`.
+/// A time such as `2026-11-24 22:37:06 UTC`.
 #[derive(Clone, Copy)]
 pub struct Moment {
     pub time: ASN1DateTime,
@@ -39,7 +39,7 @@ impl fmt::Display for Moment {
     }
 }
 
-/// A number in at least this many digits.
+/// A number in at least this number of digits.
 #[derive(Clone, Copy)]
 struct Digits {
     number: u32,
@@ -69,7 +69,7 @@ fn two_digits(number: u8) -> Digits
     }
 }
 
-/// The year, completed if it is that of a UTCTime.
+/// The year, completed by RFC 5280 if it is of a UTCTime.
 fn full_year(time: ASN1DateTime, is_utc_time: bool) -> u32
     ensures { result ≡ full_year is_utc_time time }
 {
@@ -93,7 +93,7 @@ fn write_fraction<W: fmt::Write>(f: &mut fmt::Formatter<W>, nanosecond: Option<u
     }
 }
 
-/// The digits after the point, without zeros at the end.
+/// The digits after the point, without trailing zeros.
 fn shortest_fraction(nanosecond: u32) -> Digits
     ensures { at_least_digits result.least result.number ≡ or_zero (without_last_zeros (at_least_digits 9 nanosecond)) }
 {
@@ -128,7 +128,7 @@ fn write_zone<W: fmt::Write>(f: &mut fmt::Formatter<W>, zone: ASN1TimeZone) -> f
     }
 }
 
-/// The minutes of an offset, after a colon.
+/// The minutes of a UTC offset, after a colon.
 #[derive(Clone, Copy)]
 struct Minutes(u8);
 
@@ -144,7 +144,7 @@ impl fmt::Display for Minutes {
     }
 }
 
-/// A space and the sign of an offset.
+/// A space and the sign of a UTC offset.
 fn sign(hours: i8, minutes: i8) -> &'static str
     ensures { result.now ≡ (if int_lt hours (pos 0) || int_lt minutes (pos 0) then codes " -" else codes " +") }
 {

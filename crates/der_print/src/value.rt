@@ -8,7 +8,7 @@ ghost use Rattle.der_print.specs.Texts.{content_of, octets_or_none};
 ghost use Rattle.der_print.specs.Values.{IsUniversalValue, IsValue, boolean_text, identifier_text};
 ghost use Rattle.der_print.specs.Values.{is_quoted_type, octets_text, truth_text};
 ghost use Rattle.der_print.specs.Writes.{WritesOne};
-ghost use Rattle.der_walk.specs.Walked.{visited_of};
+ghost use Rattle.der_elements.specs.Walked.{visited_of};
 ghost use Rattle.oid_names.specs.OwnNames.{IsNameAmong, Named};
 
 use crate::bits::Bits;
@@ -25,15 +25,14 @@ use crate::time::Moment;
 use der_base::header::{Class, Tag};
 use der_base::text::is_text_type;
 use der_base::time::read_time;
-use der_walk::Element;
+use der_elements::Element;
 use oid_names::{OwnNames, name_among};
 use std::fmt;
 
 /// The octet of TRUE by DER (X.690 11.1).
 const TRUE: u8 = 0xff;
 
-/// The value of a primitive element, after a space. Nothing for an element whose content is elements, and
-/// for NULL.
+/// The value of a primitive element, after a space. Empty for NULL, and if the content is elements.
 #[derive(Clone, Copy)]
 pub struct Value<'a> {
     pub element: Element<'a>,
@@ -46,7 +45,7 @@ impl fmt::Display for Value<'_> {
     }
 }
 
-/// Writes the value of a primitive element, and nothing of an element whose content is elements.
+/// Writes the value of a primitive element; nothing if the content is elements.
 fn write_value_alone<W: fmt::Write>(
     f: &mut fmt::Formatter<W>,
     element: &Element<'_>,
@@ -62,7 +61,7 @@ fn write_value_alone<W: fmt::Write>(
     }
 }
 
-/// Writes the value of a primitive element, with names from a table of one's own, if there is one.
+/// Writes the value of a primitive element. `own` names an OBJECT IDENTIFIER before the built-in table does.
 pub(crate) fn write_value<'n, W: fmt::Write>(
     f: &mut fmt::Formatter<W>,
     element: &Element<'_>,
@@ -115,7 +114,7 @@ fn write_universal<'n, W: fmt::Write>(
     }
 }
 
-/// Whether the values of a universal type are strings of characters.
+/// Returns whether values of a universal type are character strings.
 pub fn is_quoted_type(number: u32) -> bool
     ensures { result ≡ is_quoted_type number }
 {
@@ -142,7 +141,7 @@ fn write_quoted<W: fmt::Write>(
     )
 }
 
-/// Writes octets in hexadecimal digits, or as a text if they are printable ASCII.
+/// Writes octets in hexadecimal, or as text if they are printable ASCII.
 fn write_octets<W: fmt::Write>(
     f: &mut fmt::Formatter<W>,
     octets: &[u8],
@@ -159,7 +158,7 @@ fn write_octets<W: fmt::Write>(
     write_spaced(f, Hex { octets, limit })
 }
 
-/// Writes a BOOLEAN, or octets that are none.
+/// Writes a BOOLEAN, or octets that aren't one.
 fn write_boolean<W: fmt::Write>(
     f: &mut fmt::Formatter<W>,
     octets: &[u8],
@@ -173,7 +172,7 @@ fn write_boolean<W: fmt::Write>(
     }
 }
 
-/// Writes what the octet of a BOOLEAN says.
+/// Writes the value of a BOOLEAN's octet.
 fn write_truth<W: fmt::Write>(f: &mut fmt::Formatter<W>, octet: u8) -> fmt::Result
     ensures { DisplaysOnOk W.Write.write_str_gives f.old result (Some (truth_text octet)) f.new }
 {
@@ -224,7 +223,7 @@ fn write_relative<W: fmt::Write>(f: &mut fmt::Formatter<W>, octets: &[u8]) -> fm
     write_spaced(f, arcs)
 }
 
-/// Writes a time, as a text where there is no such moment.
+/// Writes a time, or the characters if they aren't a valid time.
 fn write_time<W: fmt::Write>(
     f: &mut fmt::Formatter<W>,
     number: u32,

@@ -5,4 +5,5 @@ pub mod Passed
 pub mod Prefix
 pub mod Preorder
 pub mod Readings
+pub mod SignLaws
 pub mod Trees

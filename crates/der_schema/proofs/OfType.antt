@@ -7,17 +7,17 @@ use Rattle.std.proofs.lemmas.List.{append-nil, map-append}
 use Rattle.std.proofs.lemmas.List.Elements.{All-nil, All-append, All-cons}
 use Rattle.std.proofs.lemmas.List.Folds.{list_all-append}
 use Rattle.der_base.specs.declared.rules.Rules.{Rules}
-use Rattle.der_walk.specs.declared.walk.Walk.{Walk}
-use Rattle.der_walk.specs.Visits.{Visited, Visits}
-use Rattle.der_walk.specs.Walked.{HasVisited}
-use Rattle.der_walk.proofs.OneVisit.{visits_same}
+use Rattle.der_elements.specs.declared.walk.Walk.{Walk}
+use Rattle.der_elements.specs.Visits.{Visited, Visits}
+use Rattle.der_elements.specs.Walked.{HasVisited}
+use Rattle.der_elements.proofs.OneVisit.{visits_same}
 use Rattle.der_schema.specs.declared.known.KnownType.{KnownType}
 use Rattle.der_schema.specs.declared.schema.Component.{Component}
 use Rattle.der_schema.specs.declared.schema.Schema.{Schema}
 use Rattle.der_schema.specs.Beginnings.{BeginsWith}
 use Rattle.der_schema.specs.Encodings.{all_seen, seen_in}
 use Rattle.der_schema.specs.Ends.{is_whole_after}
-use Rattle.der_schema.specs.Known.{all_extras, IsOfType, IsFirstOf, IsFirstSchema, root_at}
+use Rattle.der_schema.specs.Known.{all_extras, IsKnownType, IsOfType, IsFirstOf, IsFirstSchema}
 use Rattle.der_schema.specs.Meaning.{Label, Root, root_of}
 use Rattle.der_schema.specs.Opened.{Seen, of_input, opened_by, name_after}
 use Rattle.der_schema.proofs.Prefix.{visited_first}
@@ -181,10 +181,10 @@ first_later P k ks ts (Some sc) never (one, first, same) = (
 
 -- the first type that an input is of
 pub first_is_of_type : (ts : List Component) (ks : List KnownType) (r : Rules) (i : List ℕ) (o : Option Schema)
-    → IsFirstSchema (λ (k : KnownType). IsOfType (root_at ts k) r i) ks ts o
+    → IsFirstSchema (IsKnownType ts r i) ks ts o
     → IfSome o (λ (sc : Schema). IsOfType (root_of sc) r i)
 first_is_of_type ts ks r i None h = tt
-first_is_of_type ts ks r i (Some sc) h = subst (λ (z : Root). IsOfType z r i) (sym h.2.root) h.1.holds
+first_is_of_type ts ks r i (Some sc) h = subst (λ (z : Root). IsOfType z r i) (sym h.2.root) h.1.holds.of_type
 
 -- the first type of a name
 pub first_has_name : (ts : List Component) (ks : List KnownType) (n : List ℕ) (o : Option Schema)

@@ -6,7 +6,7 @@ use Rattle.std.specs.Option.{option_map}
 use Rattle.std.proofs.Math.Seq.{get_or-append_seam}
 use Rattle.std.proofs.lemmas.List.{map-append, take-map, drop-map}
 use Rattle.std.proofs.lemmas.Option.{slice_get-map, slice_get-get_or}
-use Rattle.der_walk.specs.Visits.{Visited}
+use Rattle.der_elements.specs.Visits.{Visited}
 use Rattle.der_schema.specs.declared.level.Level.{Level}
 use Rattle.der_schema.specs.declared.levels.Levels.{Levels}
 use Rattle.der_schema.specs.declared.matching.Step.{Step}

@@ -2,16 +2,16 @@
 use Rattle.std.proofs.Common.{◌≡◌, ◌≢◌, ℕ, zero, suc, ◌+◌, ◌≤◌, ◌⊎◌, Bool, Option, List, [], ◌∷◌, ◌++◌, length, drop, refl, sym, ap, subst, ◌∙◌, arith, append_assoc, length-append, length-drop, inl, inr}
 use Rattle.std.proofs.lemmas.List.{append-nil, nil_from_length}
 use Rattle.der_base.specs.declared.rules.Rules.{Rules}
-use Rattle.der_walk.specs.declared.content.Open.{Open}
-use Rattle.der_walk.specs.declared.walk.Walk.{Walk}
-use Rattle.der_walk.specs.Ends.{between, end_in, IsWithin}
-use Rattle.der_walk.specs.Visits.{Visited, Extras, Visits, VisitsOne, none, one_more}
-use Rattle.der_walk.specs.Walked.{EndsAt, HasWalked, HasVisited, outermost, inside}
-use Rattle.der_walk.proofs.Between.{between_all, between_front, drop_front}
-use Rattle.der_walk.proofs.Ends.{within_later}
-use Rattle.der_walk.proofs.OneVisit.{visits_same}
-use Rattle.der_walk.proofs.Rest.{Rest, no_limit, rest_of}
-use Rattle.der_walk.proofs.Steps.{advance, close, within}
+use Rattle.der_elements.specs.declared.content.Open.{Open}
+use Rattle.der_elements.specs.declared.walk.Walk.{Walk}
+use Rattle.der_elements.specs.Ends.{between, end_in, IsWithin}
+use Rattle.der_elements.specs.Visits.{Visited, Extras, Visits, VisitsOne, none, one_more}
+use Rattle.der_elements.specs.Walked.{EndsAt, HasWalked, HasVisited, outermost, inside}
+use Rattle.der_elements.proofs.Between.{between_all, between_front, drop_front}
+use Rattle.der_elements.proofs.Ends.{within_later}
+use Rattle.der_elements.proofs.OneVisit.{visits_same}
+use Rattle.der_elements.proofs.Rest.{Rest, no_limit, rest_of}
+use Rattle.der_elements.proofs.Steps.{advance, close, within}
 
 -- after more elements of the content
 advance_all : {x : Extras} {r : Rules} {i : List ℕ} {d : ℕ} {opens : List Open} {s : Rules} {e : Option ℕ} {m : Bool} {at : ℕ} {vs : List Visited} (octets others : List ℕ) (us : List Visited) (k : ℕ)
@@ -40,7 +40,7 @@ record Completes (x : Extras) (r : Rules) (i : List ℕ) (vs : List Visited) : T
 
 visited_all : {x : Extras} {r : Rules} {i : List ℕ} {d : ℕ} {opens : List Open} {s : Rules} {e : Option ℕ} {m : Bool} {at : ℕ} {vs : List Visited}
     → HasWalked x r i d opens s e m at vs → opens ≡ [] → length i ≤ at → Visits x r 101 0 0 i vs
-visited_all {x} {r} {i} {d} {opens} {s} {e} {m} {at} {vs} (outermost ed eo es he ha v) q h =
+visited_all {x} {r} {i} {d} {opens} {s} {e} {m} {at} {vs} (outermost ed eo es he hm ha v) q h =
     subst (λ l. Visits x r 101 0 0 l vs) (between_all i at h) (subst (λ n. Visits x r n 0 0 (between i 0 at) vs) ed v)
 visited_all (inside outer o start first before us v eo w is he hf ha hl vis ev el em ef es) q h =
     absurd (omega (arith, ap length (sym eo ∙ q), length-append outer (o ∷ [])))
@@ -48,7 +48,7 @@ visited_all (inside outer o start first before us v eo w is he hf ha hl vis ev e
 -- the innermost of the elements that are open
 last_open : {x : Extras} {r : Rules} {i : List ℕ} {d : ℕ} {opens : List Open} {s : Rules} {e : Option ℕ} {m : Bool} {at : ℕ} {vs : List Visited}
     → HasWalked x r i d opens s e m at vs → opens ≢ [] → (outer : List Open) × (o : Open) × (opens ≡ outer ++ o ∷ [])
-last_open (outermost ed eo es he ha v) some = absurd (some eo)
+last_open (outermost ed eo es he hm ha v) some = absurd (some eo)
 last_open (inside outer o start first before us v eo w is he hf ha hl vis ev el em ef es) some = (outer, o, eo)
 
 more : (x : Extras) (r : Rules) (i : List ℕ) (vs us : List Visited) → Completes x r i (vs ++ us) → Completes x r i vs

@@ -2,7 +2,7 @@
 use Rattle.std.proofs.Common.{◌≡◌, ℕ, suc, List, [], ◌∷◌, ◌++◌, refl, ◌∙◌, ap}
 use Rattle.std.proofs.lemmas.List.{map-append}
 use Rattle.der_base.specs.declared.rules.Rules.{Rules}
-use Rattle.der_walk.specs.Visits.{Visited, Extras, Visits, VisitsOne, none, one_more, primitive, broken, string, constructed, indefinite}
+use Rattle.der_elements.specs.Visits.{Visited, Extras, Visits, VisitsOne, none, one_more, primitive, broken, string, constructed, indefinite}
 use Rattle.der_schema.specs.Encodings.{all_seen, encoding_in, seen_in}
 use Rattle.der_schema.specs.Meaning.{Encoding}
 use Rattle.der_schema.specs.Opened.{Forest, no_elements, one_more as one_tree_more, Seen, seen, preorder}

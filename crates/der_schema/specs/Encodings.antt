@@ -1,10 +1,10 @@
 -- The elements that a walk visits, as a schema sees them.
 use Rattle.std.specs.Prelude.{ℕ, ◌+◌, Option, Some, None, List, drop, map, take}
-use Rattle.der_walk.specs.Visits.{Visited}
+use Rattle.der_elements.specs.Visits.{Visited}
 use Rattle.der_schema.specs.Meaning.{Encoding}
 use Rattle.der_schema.specs.Opened.{Seen, seen}
 
--- the content octets of an element whose content begins at p in i, and all that follow where the length is indefinite
+-- the content octets of an element whose content begins at p in i; with an indefinite length, all octets from there on
 abbrev pub octets_at : List ℕ → ℕ → Option ℕ → List ℕ
 octets_at i p (Some n) = take n (drop p i)
 octets_at i p None = drop p i

@@ -19,7 +19,7 @@ may_end_in (each _) = true
 abbrev pub level_ends : Level → Bool
 level_ends l = may_end_in (expected_of l.expected)
 
--- all components that are still to come may be absent
+-- all components that are still expected are optional
 abbrev pub may_end : State → Bool
 may_end s = may_end_in s.expected
 
@@ -40,10 +40,10 @@ abbrev pub whole_by : Bool → List State → List Seen → Bool
 whole_by ok ss [] = ok
 whole_by ok ss (v ∷ vs) = whole_by (whole_past ok ss v) (opened_past ss v) vs
 
--- each content in an input of a type, which is these elements, ends where it may
+-- each content of these elements, which are an input of a type, ends where it may
 abbrev pub is_whole_after : Root → List Seen → Bool
 is_whole_after sc vs = whole_by true (of_input sc ∷ []) vs && list_all may_end (opened_by (of_input sc ∷ []) vs)
 
--- Law: what a namer says at the end of an input is so of its tree.
+-- Law: what a namer tells at the end of an input holds for its tree.
 abbrev pub WholeInPreorder : Type 0
 WholeInPreorder = (sc : Root) (f : Forest) → is_whole_after sc (preorder 0 f) ≡ is_whole (of_input sc) f

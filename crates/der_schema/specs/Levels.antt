@@ -1,4 +1,4 @@
--- The contents that are open in a namer.
+-- The open contents of a namer.
 use Rattle.std.specs.Prelude.{List, map, take}
 use Rattle.der_schema.specs.declared.level.Level.{Level}
 use Rattle.der_schema.specs.declared.levels.Levels.{Levels}

@@ -8,4 +8,5 @@ pub mod NamePaths
 pub mod Named
 pub mod Opened
 pub mod Readings
+pub mod Signs
 pub mod Steps

@@ -1,4 +1,4 @@
--- What a schema says of an element: which component it is, what is expected inside it and after it.
+-- What a schema tells about an element: the component that it matches, and what is expected inside it and after it.
 use Rattle.std.specs.Prelude.{ℕ, Bool, true, false, not, ◌&&◌, ◌==◌, nat_lt, if◌then◌else◌}
 use Rattle.std.specs.Prelude.{Option, Some, None, List, [], ◌∷◌, map, take, slice_get}
 use Rattle.std.specs.Borrow.{Bor}
@@ -22,15 +22,17 @@ use Rattle.der_schema.specs.declared.schema.Secrecy.{Secrecy}
 use Rattle.der_schema.specs.declared.schema.Secrecy.TheVariants.{Public, Secret, SecretUnread}
 use Rattle.der_schema.specs.declared.schema.Selection.{Selection, out-Selection}
 use Rattle.der_schema.specs.declared.schema.Type.{out-Type}
+use Rattle.der_schema.specs.declared.words.Words.{Words}
 
--- An element: its identifier (X.690 8.1.2) and its content octets, or what follows the header of an indefinite length.
+-- An element: its identifier (X.690 8.1.2) and its content octets. With an indefinite length, these are all octets
+-- after the header.
 pub record Encoding : Type 0 where
   pub class : Class
   pub constructed : Bool
   pub number : ℕ
   pub content : List ℕ
 
--- what the elements of a content are, from an offset on
+-- what a schema expects of the elements of a content, from an offset on
 pub data Expected : Type 0 where
   free : Expected
   nothing : Expected
@@ -45,15 +47,15 @@ expected_of (Ordered w) = components w.now
 expected_of (Unordered w) = members w.now
 expected_of (Repeated w) = each w.now
 
--- the types that have an index, in their order
+-- the types that have an index, in order
 abbrev pub all_types : List (Bor Component) → List Component
 all_types ts = map (λ w. w.now) ts
 
--- what an identifier selects: no component if it is nothing
+-- what an identifier selects; no component if it selects nothing
 abbrev pub components_of : Selection → List Component
 components_of s = (out-Selection s).components.now
 
--- what the types of elements depend on besides their components: what the last identifier selects, and the types that
+-- what the matching of elements needs besides their components: what the last identifier selects, and the types that
 -- have an index
 pub record Around : Type 0 where
   pub selected : List Component
@@ -70,7 +72,7 @@ state_of ts l = record {
   around = record { selected = components_of l.selected.now; types = ts };
 }
 
--- what the elements of an input are to be, and the types that have an index
+-- what is expected of the elements of an input, and the types that have an index
 pub record Root : Type 0 where
   pub components : List Component
   pub types : List Component
@@ -78,23 +80,29 @@ pub record Root : Type 0 where
 abbrev pub root_of : Schema → Root
 root_of sc = record { components = sc.components.now; types = all_types sc.types.now }
 
--- any elements are inside
+-- the inside of an element that no type describes
 abbrev pub any_elements : Inside
 any_elements = AnyElements
 
--- a name, and how secret what has it is
+-- a name, how secret an element with this name is, and the words for it
 pub record Marked : Type 0 where
   pub name : List ℕ
   pub secrecy : Secrecy
+  pub words : Option Words
+
+-- the words that are referred to
+abbrev pub words_in : Option (Bor Words) → Option Words
+words_in None = None
+words_in (Some w) = Some w.now
 
 abbrev pub mark_of : Component → Marked
-mark_of c = record { name = c.name.now; secrecy = c.secrecy }
+mark_of c = record { name = c.name.now; secrecy = c.secrecy; words = words_in c.words }
 
 abbrev pub nameless : Marked
-nameless = record { name = []; secrecy = Public }
+nameless = record { name = []; secrecy = Public; words = None }
 
 abbrev pub marked_of : Called → Marked
-marked_of c = record { name = c.named.now.name.now; secrecy = c.secrecy }
+marked_of c = record { name = c.named.now.name.now; secrecy = c.marked.now.secrecy; words = words_in c.words }
 
 -- an element that is in a schema: its name, how secret it is, and what is inside
 pub record Field : Type 0 where
@@ -112,7 +120,7 @@ abbrev pub or_else : {A : Type 0} → Option A → Option A → Option A
 or_else (Some a) _ = Some a
 or_else None o = o
 
--- an encoding may have this form (X.690 8.1.2.5)
+-- an element that is primitive or constructed may have this form (X.690 8.1.2.5)
 abbrev pub fits : Form → Bool → Bool
 fits Primitive constructed = not constructed
 fits Constructed constructed = constructed
@@ -129,7 +137,7 @@ abbrev pub name_or : List ℕ → List ℕ → List ℕ
 name_or [] other = other
 name_or (b ∷ bs) _ = b ∷ bs
 
--- the secrecy of what has both: the one that lets less be printed
+-- the more secret of two
 abbrev pub secret_or : Secrecy → Secrecy → Secrecy
 secret_or Public s = s
 secret_or SecretUnread Public = SecretUnread
@@ -138,7 +146,11 @@ secret_or SecretUnread Secret = Secret
 secret_or Secret s = Secret
 
 abbrev pub marked_or : Marked → Marked → Marked
-marked_or m other = record { name = name_or m.name other.name; secrecy = secret_or m.secrecy other.secrecy }
+marked_or m other = record {
+  name = name_or m.name other.name;
+  secrecy = secret_or m.secrecy other.secrecy;
+  words = or_else m.words other.words;
+}
 
 -- an element as an alternative of a choice (X.680 29)
 abbrev pub as_alternative : Component → Encoding → Marked → Option Field
@@ -155,7 +167,7 @@ abbrev pub alternative_in : List Component → Encoding → Marked → Option Fi
 alternative_in [] x choice = None
 alternative_in (c ∷ cs) x choice = or_else (as_alternative c x choice) (alternative_in cs x choice)
 
--- an element as a component that nothing else says, under this name and mark
+-- an element as a component that refers to nothing else, with this name and mark
 abbrev pub as_plain : Component → Encoding → Marked → Option Field
 as_plain c x m =
     elim (out-Type c.kind) [
@@ -166,12 +178,12 @@ as_plain c x m =
       | Numbered n ↦ None
     ]
 
--- an element of a type that has an index, under this name or else that of the type
+-- an element as a type with an index, with this name or else the name of the type
 abbrev pub as_numbered : Option Component → Encoding → Marked → Option Field
 as_numbered None x m = None
 as_numbered (Some c) x m = as_plain c x (marked_or m (mark_of c))
 
--- an element as a component that may be a type by its index, under this name and mark
+-- an element as a component that may refer to a type by index, with this name and mark
 abbrev pub as_referred : Component → List Component → Encoding → Marked → Option Field
 as_referred c ts x m =
     elim (out-Type c.kind) [
@@ -182,7 +194,7 @@ as_referred c ts x m =
       | Numbered n ↦ as_numbered (slice_get ts n) x m
     ]
 
--- an element of the selected type, or any
+-- an element as the selected type, or as any element if nothing is selected
 abbrev pub as_selected_by : List Component → List Component → Encoding → Marked → Option Field
 as_selected_by [] ts x m = Some (field m any_elements)
 as_selected_by (c ∷ _) ts x m = as_referred c ts x (marked_or (mark_of c) m)
@@ -190,7 +202,7 @@ as_selected_by (c ∷ _) ts x m = as_referred c ts x (marked_or (mark_of c) m)
 abbrev pub as_selected : Around → Encoding → Marked → Option Field
 as_selected a x m = as_selected_by a.selected a.types x m
 
--- an element as a component, if it may be that
+-- an element as a component, if it matches
 abbrev pub found_in : Component → Encoding → Around → Option Field
 found_in c x a =
     elim (out-Type c.kind) [
@@ -207,12 +219,12 @@ next_or (Some f) _ cs _ = Some (f, cs)
 next_or None true _ later = later
 next_or None false _ _ = None
 
--- the first component that an element is, where those before it may be absent, and the components after it
+-- the first component that an element matches, and the components after it; those before it must be optional
 abbrev pub next_in : List Component → Encoding → Around → Option (Field × List Component)
 next_in [] x a = None
 next_in (c ∷ cs) x a = next_or (found_in c x a) c.optional cs (next_in cs x a)
 
--- the first component that an element is, in any order
+-- the first component that an element matches, in any order
 abbrev pub member_in : List Component → Encoding → Around → Option Field
 member_in [] x a = None
 member_in (c ∷ cs) x a = or_else (found_in c x a) (member_in cs x a)
@@ -243,12 +255,12 @@ selected_past i x cs =
       | Begins w z ↦ selected_by z.now (first_content x.content)
     ]
 
--- the selected component in a string, or any elements
+-- the selected component in a string, or any elements if nothing is selected
 abbrev pub chosen_in : List Component → Expected
 chosen_in [] = free
 chosen_in (c ∷ cs) = components (c ∷ cs)
 
--- what is expected inside an element of this form
+-- what is expected inside an element that is primitive or constructed
 abbrev pub opened : Inside → Bool → List Component → Expected
 opened i p cs =
     elim (out-Inside i) [
@@ -263,16 +275,17 @@ opened i p cs =
       | Begins w z ↦ components w.now
     ]
 
--- the name of an element, whether it is an item, and how secret it is
+-- the name of an element, whether it is an item, how secret it is, and the words for it
 pub record Label : Type 0 where
   pub text : List ℕ
   pub is_item : Bool
   pub secrecy : Secrecy
+  pub words : Option Words
 
 abbrev pub label : Bool → Marked → Label
-label item m = record { text = m.name; is_item = item; secrecy = m.secrecy }
+label item m = record { text = m.name; is_item = item; secrecy = m.secrecy; words = m.words }
 
--- the elements of a content are items, which no component tells apart: those of a list, or any
+-- whether the index tells the elements apart: they are those of a list, or any
 abbrev pub has_items : Expected → Bool
 has_items free = true
 has_items nothing = false
@@ -280,13 +293,13 @@ has_items (components _) = false
 has_items (members _) = false
 has_items (each _) = true
 
--- what a schema says of an element: its name and mark, what is expected inside it and after it
+-- what a schema tells about an element: its name and mark, and what is expected inside it and after it
 pub record Passed : Type 0 where
   pub name : Option Label
   pub inside : State
   pub after : State
 
--- it is this field, and this is expected after it; what is selected around it is selected inside it
+-- an element with this field, after which this is expected; what is selected around it is selected inside it
 abbrev pub passed : State → Encoding → Field → Expected → Passed
 passed s x f e = record {
   name = Some (label (has_items s.expected) f.marked);
@@ -297,7 +310,7 @@ passed s x f e = record {
   };
 }
 
--- it has no name, and no element in it or after it has one
+-- an element without a name; no element inside it or after it has one
 abbrev pub unnamed : State → Passed
 unnamed s = record {
   name = None;
@@ -313,7 +326,7 @@ abbrev pub with_same : Option Field → Expected → Option (Field × Expected)
 with_same None e = None
 with_same (Some f) e = Some (f, e)
 
--- what an element is in a content, and what is expected after it
+-- the field of the next element in a content, and what is expected after it
 abbrev pub place_in : Expected → Encoding → Around → Option (Field × Expected)
 place_in free x a = Some (field nameless any_elements, free)
 place_in nothing x a = None
@@ -325,6 +338,6 @@ abbrev pub passed_or : State → Encoding → Option (Field × Expected) → Pas
 passed_or s x (Some p) = passed s x p.0 p.1
 passed_or s x None = unnamed s
 
--- what a schema says of the next element in a content
+-- what a schema tells about the next element in a content
 abbrev pub past : State → Encoding → Passed
 past s x = passed_or s x (place_in s.expected x s.around)

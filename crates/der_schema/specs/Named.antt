@@ -1,6 +1,6 @@
--- How far a namer has come, and what it says next.
+-- How far a namer has come, and what it gives next.
 use Rattle.std.specs.Prelude.{◌≡◌, ℕ, true, Option, List, [], ◌∷◌, ◌++◌}
-use Rattle.der_walk.specs.Visits.{Visited}
+use Rattle.der_elements.specs.Visits.{Visited}
 use Rattle.der_schema.specs.declared.matching.Name.{Name}
 use Rattle.der_schema.specs.declared.namer.Namer.{Namer}
 use Rattle.der_schema.specs.Ends.{whole_by}
@@ -17,7 +17,7 @@ pub record HasNamed (sc : Root) (i : List ℕ) (vs : List Visited) (n : Namer) :
   pub opened : states_in sc.types n.levels ≡ opened_by (of_input sc ∷ []) (all_seen i vs)
   pub whole : n.levels.whole ≡ whole_by true (of_input sc ∷ []) (all_seen i vs)
 
--- after vs it has named v too, and this is its name by the schema
+-- after vs the namer has named v too, and this is the name by the schema
 pub record NamesNext (sc : Root) (i : List ℕ) (vs : List Visited) (v : Visited) (n : Namer) (said : Option Name)
     : Type 0 where
   pub named : HasNamed sc i (vs ++ v ∷ []) n

@@ -1,4 +1,4 @@
--- The names of the elements of an input, one after another, and the contents that are open.
+-- The names of the elements of an input, one after another, and the open contents.
 use Rattle.std.specs.Prelude.{◌≡◌, ℕ, suc, length, Option, Some, None, List, [], ◌∷◌, ◌++◌, take, slice_get}
 use Rattle.der_schema.specs.Meaning.{Encoding, Label, Passed, Root, State, components, past}
 
@@ -7,20 +7,20 @@ pub data Forest : Type 0 where
   no_elements : Forest
   one_more : Encoding → Forest → Forest → Forest
 
--- the names of the elements of a content, in preorder, where s is expected; None where one isn't in the schema
+-- the names of the elements of a content where s is expected, in preorder; None for an element that isn't in the schema
 abbrev pub names : State → Forest → List (Option Label)
 names s no_elements = []
 names s (one_more x inside after) =
     (past s x).name ∷ names (past s x).inside inside ++ names (past s x).after after
 
--- an input of a type
+-- what is expected in an input of a type
 abbrev pub of_input : Root → State
 of_input sc = record {
   expected = components sc.components;
   around = record { selected = []; types = sc.types };
 }
 
--- an element with so many around it
+-- an element with this many elements around it
 pub record Seen : Type 0 where
   pub depth : ℕ
   pub element : Encoding
@@ -59,7 +59,7 @@ opened_by ss (v ∷ vs) = opened_by (opened_past ss v) vs
 abbrev pub name_after : Root → List Seen → Seen → Option Label
 name_after sc vs v = name_in (opened_by (of_input sc ∷ []) vs) v
 
--- Law: what a namer says of each element in preorder is its name in the tree.
+-- Law: a namer gives each element in preorder the name that it has in the tree.
 abbrev pub NamesInPreorder : Type 0
 NamesInPreorder = (sc : Root) (f : Forest) (vs us : List Seen) (v : Seen) → preorder 0 f ≡ vs ++ v ∷ us
     → slice_get (names (of_input sc) f) (length vs) ≡ Some (name_after sc vs v)

@@ -1,4 +1,5 @@
--- What an element may be by the text of X.680, where a component may be absent: a relation, with no first match.
+-- What an element may be by the text of X.680, where a component may be absent. This is a relation, and no first match
+-- counts.
 use Rattle.std.specs.Prelude.{◌≡◌, true, Option, Some, List, [], ◌∷◌, ◌++◌}
 use Rattle.std.specs.Option.{is_some}
 use Rattle.std.specs.List.{list_all}
@@ -7,7 +8,7 @@ use Rattle.der_schema.specs.Meaning.{Encoding, Field, Label, Passed, State, free
 use Rattle.der_schema.specs.Meaning.{any_elements, field, found_in, nameless, passed}
 use Rattle.der_schema.specs.Opened.{Forest, no_elements, one_more, names}
 
--- c is next, where the OPTIONAL components before it are absent (X.680 25), and the components after it follow
+-- c comes next if the OPTIONAL components before it are absent (X.680 25), and these components follow it
 pub data IsNext : List Component → Component → List Component → Type 0 where
   first : {cs : List Component} (c : Component) (rest : List Component) → cs ≡ c ∷ rest → IsNext cs c rest
   behind : {cs : List Component} {c : Component} {rest : List Component} (b : Component) (later : List Component)
@@ -29,7 +30,7 @@ pub data Reads (s : State) (x : Encoding) (p : Passed) : Type 0 where
   item : (c : Component) (f : Field) → s.expected ≡ each c → found_in c x s.around ≡ Some f
       → p ≡ passed s x f (each c) → Reads s x p
 
--- elements that may be what is expected, each of them and each inside, with these names
+-- elements that may be what is expected, each with those inside it, and their names
 pub data AreNamed : State → Forest → List (Option Label) → Type 0 where
   no_more : {s : State} → AreNamed s no_elements []
   one_named : {s : State} {ns : List (Option Label)} (x : Encoding) (inside after : Forest) (p : Passed)

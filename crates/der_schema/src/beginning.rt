@@ -1,16 +1,16 @@
-//! The first elements of an input, which show of which types it isn't.
+//! The first elements of an input, which rule out most types.
 ghost use Rattle.std.specs.Prelude.{◌≡◌, ◌≤◌, length, take};
 ghost use Rattle.std.specs.List.{All};
 
 use crate::namer::Namer;
 use crate::schema::{Class, Schema};
 use der_base::rules::Rules;
-use der_walk::{Element, Walk};
+use der_elements::{Element, Walk};
 
-/// How many elements are read at most.
+/// The most elements that are read.
 const MAX_FIRST: usize = 4;
 
-/// What the places hold that aren't used.
+/// The value of unused entries.
 const NO_ELEMENT: Element<'static> = Element {
     class: Class::Universal,
     constructed: false,
@@ -43,7 +43,7 @@ impl<'a> Beginning<'a> {
     ghost use Rattle.der_schema.specs.Known.{IsOfType};
     ghost use Rattle.der_schema.specs.Meaning.{root_of};
 
-    /// The first elements of an input by these rules, and inside strings.
+    /// The first elements of an input by these rules, also those inside strings.
     pub(crate) fn of(input: &'a [u8], rules: Rules) -> Beginning<'a>
         ensures { BeginsWith rules input.now (first_elements result) }
     {
@@ -62,7 +62,8 @@ impl<'a> Beginning<'a> {
         Beginning { elements, len }
     }
 
-    /// Whether the input, which begins so, may be of this type: each of these elements has a name.
+    /// Whether the input that begins with these elements may be of this type: each of them has a name. If not, it isn't
+    /// of this type.
     pub(crate) fn may_be<'x>(&self, input: &'x [u8], schema: Schema<'x>) -> bool
         ensures { (r : Rules) → BeginsWith r input.now (first_elements self.now)
             → IsOfType (root_of schema.entry) r input.now → IsTrue result }

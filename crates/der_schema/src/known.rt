@@ -1,45 +1,49 @@
-//! Which of some types an input is.
+//! The type of an input, from a list of types.
 ghost use Rattle.std.specs.Prelude.{◌≡◌, ◌↔◌, IsTrue};
-ghost use Rattle.der_schema.specs.Known.{IsOfType, IsFirstSchema, IsSchemaOf, root_at};
+ghost use Rattle.der_schema.specs.Known.{IsKnownType, IsOfType, IsFirstSchema, IsSchemaOf, components_at};
 ghost use Rattle.der_schema.specs.Meaning.{all_types, root_of};
 
 use crate::beginning::Beginning;
+use crate::matching::type_at;
 use crate::namer::Namer;
-use crate::schema::{Component, Schema};
+use crate::schema::{Component, Schema, Type};
+use crate::sign::{Sign, has_signs};
 use der_base::rules::Rules;
-use der_walk::Walk;
+use der_elements::Walk;
+use std::slice;
 
-/// A type of which an input may be.
+/// A type that an input may have.
 #[derive(Clone, Copy)]
 pub struct KnownType {
-    /// Its name in the document that defines it, as `Certificate`.
+    /// The name in the document that defines the type, such as `Certificate`.
     pub name: &'static str,
-    /// What the elements of an input are.
-    pub components: &'static [Component],
+    /// The type, by its index.
+    pub kind: Type,
+    /// Signs that tell the type from others, if an input of another type may have the same elements.
+    pub signs: &'static [Sign],
 }
 
-/// The first of these types that an input is of: the input is elements, each has a name, and no mandatory component
-/// lacks. Their components refer to the other types by index.
+/// The first of these types that an input has. The input is then valid by these rules, each element has a name, no
+/// mandatory component is missing, and all signs of the type are there. A component refers to a type in `types` by
+/// index.
 pub fn first_of<'a>(
     known: &'static [KnownType],
     types: &'a [&'static Component],
     input: &[u8],
     rules: Rules,
 ) -> Option<Schema<'a>>
-    ensures { IsFirstSchema (λ k. IsOfType (root_at (all_types types.now) k) rules input.now) known.now
-        (all_types types.now) result }
+    ensures { IsFirstSchema (IsKnownType (all_types types.now) rules input.now) known.now (all_types types.now) result }
 {
     let Some((likely, others)) = known.split_first() else {
         return None;
     };
-    let schema = schema_of(likely, types);
-    if is_of_type(input, rules, schema) {
-        return Some(schema);
+    if is_known_type(likely, types, input, rules) {
+        return Some(schema_of(likely, types));
     }
     first_of_others(others, types, input, rules)
 }
 
-/// The same of types of which most are refused by the first elements of the input.
+/// The first of these types that an input has, like `first_of`. The first elements of the input rule out most of them.
 #[inline(never)]
 fn first_of_others<'a>(
     known: &'static [KnownType],
@@ -47,14 +51,13 @@ fn first_of_others<'a>(
     input: &[u8],
     rules: Rules,
 ) -> Option<Schema<'a>>
-    ensures { IsFirstSchema (λ k. IsOfType (root_at (all_types types.now) k) rules input.now) known.now
-        (all_types types.now) result }
+    ensures { IsFirstSchema (IsKnownType (all_types types.now) rules input.now) known.now (all_types types.now) result }
 {
     let beginning = Beginning::of(input, rules);
     let mut ahead = known;
     while let Some((one, rest)) = ahead.split_first() {
         let schema = schema_of(one, types);
-        if beginning.may_be(input, schema) && is_of_type(input, rules, schema) {
+        if beginning.may_be(input, schema) && is_known_type(one, types, input, rules) {
             return Some(schema);
         }
         ahead = rest;
@@ -62,7 +65,22 @@ fn first_of_others<'a>(
     None
 }
 
-/// The first of these types that has this name. Their components refer to the other types by index.
+/// Whether an input has this type and its signs.
+fn is_known_type(
+    known: &'static KnownType,
+    types: &[&'static Component],
+    input: &[u8],
+    rules: Rules,
+) -> bool
+    ensures { IsTrue result ↔ IsKnownType (all_types types.now) rules input.now known.now }
+{
+    if is_of_type(input, rules, schema_of(known, types)) {
+        return has_signs(input, rules, known.signs);
+    }
+    false
+}
+
+/// The first of these types with this name. A component refers to a type in `types` by index.
 pub fn first_named<'a>(
     known: &'static [KnownType],
     types: &'a [&'static Component],
@@ -80,19 +98,32 @@ pub fn first_named<'a>(
     None
 }
 
-/// A known type, with the types that its components refer to.
+/// The schema of a known type, with the types that its components refer to.
 fn schema_of<'a>(known: &'static KnownType, types: &'a [&'static Component]) -> Schema<'a>
     ensures { IsSchemaOf (all_types types.now) known.now result }
 {
     Schema {
         name: known.name,
-        components: known.components,
+        components: components_of(known.kind, types),
         types,
     }
 }
 
-/// Whether an input is of this type: it is elements by these rules, each of them has a name, and no mandatory
-/// component lacks. Strings that hold DER are entered.
+/// The element of an input of the type with an index. None if no type has the index.
+fn components_of(kind: Type, types: &[&'static Component]) -> &'static [Component]
+    ensures { result.now ≡ components_at (all_types types.now) kind }
+{
+    let Type::Numbered(index) = kind else {
+        return &[];
+    };
+    match type_at(types, index) {
+        Some(component) => slice::from_ref(component),
+        None => &[],
+    }
+}
+
+/// Whether an input has this type: it is valid by these rules, each element has a name, and no mandatory component is
+/// missing. Strings that contain an element are entered.
 pub fn is_of_type(input: &[u8], rules: Rules, schema: Schema<'_>) -> bool
     ensures { IsTrue result ↔ IsOfType (root_of schema.entry) rules input.now }
 {

@@ -3,17 +3,17 @@ ghost use Rattle.der_schema.specs.Ends.{WholeInPreorder};
 ghost use Rattle.der_schema.specs.Opened.{NamesInPreorder};
 ghost use Rattle.der_schema.specs.Readings.{NamedIsExpected};
 
-/// What a namer says of each element in preorder is its name in the tree.
+/// A namer gives each element in preorder the name that it has in the tree.
 pub fn names_in_preorder()
     ensures { NamesInPreorder }
 {}
 
-/// If each element has a name, the elements may be what is expected, with these names.
+/// If each element has a name, the elements are an encoding of the type, with these names.
 pub fn named_is_expected()
     ensures { NamedIsExpected }
 {}
 
-/// What a namer says at the end of an input is so of its tree.
+/// What a namer tells at the end of an input holds for its tree.
 pub fn whole_in_preorder()
     ensures { WholeInPreorder }
 {}

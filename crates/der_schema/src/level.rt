@@ -1,4 +1,4 @@
-//! What is expected in a content.
+//! What a schema expects in one content.
 ghost use Rattle.std.specs.Prelude.{◌≡◌, []};
 ghost use Rattle.std.specs.List.{list_all};
 ghost use Rattle.der_schema.specs.Ends.{is_optional, level_ends};
@@ -6,37 +6,37 @@ ghost use Rattle.der_schema.specs.Meaning.{components_of};
 
 use crate::schema::{Component, Selection};
 
-/// What the elements of a content are, from an offset on.
+/// What a schema expects of the elements of a content, from an offset on.
 #[derive(Clone, Copy)]
 pub(crate) enum Content {
-    /// None is in the schema.
+    /// None of them is in the schema.
     NoElement,
-    /// They are any elements.
+    /// Any elements.
     Anything,
-    /// These components, in their order.
+    /// These components, in this order.
     Ordered(&'static [Component]),
     /// These components, in any order.
     Unordered(&'static [Component]),
-    /// Items, each of them this.
+    /// Any number of items like this one.
     Repeated(&'static Component),
 }
 
-/// What is expected in a content, from an offset on.
+/// What a schema expects in a content, from an offset on.
 #[derive(Clone, Copy)]
 pub(crate) struct Level {
-    /// The elements that are still to come.
+    /// The elements that are expected next.
     pub expected: Content,
     /// What the last identifier selects.
     pub selected: &'static Selection,
 }
 
-/// What an identifier selects that no schema knows.
+/// What an identifier selects that isn't in the schema.
 const NOTHING_SELECTED: &Selection = &Selection {
     identifier: &[],
     components: &[],
 };
 
-/// What is selected where no identifier is.
+/// What is selected before there is an identifier.
 pub(crate) fn nothing_selected() -> &'static Selection
     ensures { components_of result.now ≡ [] }
 {
@@ -44,13 +44,13 @@ pub(crate) fn nothing_selected() -> &'static Selection
 }
 
 impl Level {
-    /// A content of no elements, which fills what isn't used.
+    /// A content without elements, as the value of unused entries.
     pub(crate) const NOTHING: Level = Level {
         expected: Content::NoElement,
         selected: NOTHING_SELECTED,
     };
 
-    /// Whether the content may end here: all components that are still to come may be absent.
+    /// Whether the content may end here: all components that are still expected are optional.
     pub(crate) fn may_end(&self) -> bool
         ensures { result ≡ level_ends self.now }
     {
@@ -61,7 +61,7 @@ impl Level {
     }
 }
 
-/// Whether all of these may be absent.
+/// Whether all of these components are optional.
 fn are_optional(components: &'static [Component]) -> bool
     ensures { result ≡ list_all is_optional components.now }
 {
@@ -75,7 +75,7 @@ fn are_optional(components: &'static [Component]) -> bool
     true
 }
 
-/// Whether all of these contents may end.
+/// Whether all of these contents may end here.
 pub(crate) fn may_all_end(levels: &[Level]) -> bool
     ensures { result ≡ list_all level_ends levels.now }
 {

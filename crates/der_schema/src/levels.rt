@@ -1,4 +1,4 @@
-//! What is expected in the contents that are open.
+//! What a schema expects in each open content.
 ghost use Rattle.std.specs.Prelude.{◌≡◌, ◌+◌, ◌≤◌, [], ◌∷◌, ◌&&◌, drop, length, slice_get, true};
 ghost use Rattle.std.specs.List.{list_all};
 ghost use Rattle.der_schema.specs.Ends.{level_ends, whole_past};
@@ -8,18 +8,19 @@ ghost use Rattle.der_schema.specs.Steps.{encoding_of, items_at, label_by};
 
 use crate::level::{Level, may_all_end};
 use crate::matching::{Called, Known, Step, has_items};
-use der_walk::Element;
+use der_elements::Element;
 
-/// How many contents are open at most: the input, and that of each element around one and of itself.
+/// The most contents that are open: the input, and those of an element and all elements around it.
 const MAX_LEVELS: usize = 102;
 
-/// How many elements may be around an element.
+/// The most elements that may be around an element.
 const MAX_DEPTH: usize = 100;
 
-/// What the places hold that aren't used. Behind a reference it is copied at once, and else place by place.
+/// The value of unused entries. It is behind a reference because the compiler then copies it at once, and not entry by
+/// entry.
 const NO_LEVELS: &[Level; MAX_LEVELS] = &[Level::NOTHING; MAX_LEVELS];
 
-/// Places for what is expected in contents, the outermost first.
+/// Entries for what is expected in contents, the outermost first.
 #[derive(Drop)]
 struct Cells {
     levels: [Level; MAX_LEVELS],
@@ -30,7 +31,7 @@ impl Cells {
     ghost use Rattle.der_schema.specs.Meaning.{all_types, expected_of, has_items, past, state_of};
     ghost use Rattle.der_schema.specs.Steps.{encoding_of, passed_of};
 
-    /// Goes past an element, in the content around it, and begins that in it.
+    /// Moves past an element in the content around it, and enters the content of the element.
     #[inline(always)]
     fn pass(&mut self, element: &Element<'_>, known: &Known<'_>) -> Step
         requires shallow { element.now.depth ≤ 100 }
@@ -48,13 +49,13 @@ impl Cells {
     }
 }
 
-/// What is expected in each content that is open, the outermost first.
+/// What is expected in each open content, the outermost first.
 #[derive(Drop)]
 pub(crate) struct Levels {
     cells: Cells,
-    /// How many are open.
+    /// The number of open contents.
     len: usize,
-    /// Whether each content that has ended had all its components.
+    /// Whether each content that has ended had all its mandatory components.
     whole: bool,
     ghost bounded: { len ≤ 102 },
     ghost sized: { length cells.levels ≡ 102 },
@@ -63,7 +64,7 @@ pub(crate) struct Levels {
 impl Levels {
     ghost use Rattle.der_schema.specs.Levels.{levels_of, states_in};
 
-    /// One content is open.
+    /// One open content.
     pub(crate) fn new(level: Level) -> Levels
         ensures levels { levels_of result ≡ level ∷ [] }
         ensures whole { result.whole ≡ true }
@@ -87,7 +88,7 @@ impl Levels {
         }
     }
 
-    /// Goes past an element, and returns what it is called.
+    /// Moves past an element, and returns what it is called.
     #[inline(never)]
     pub(crate) fn pass(&mut self, element: &Element<'_>, known: &Known<'_>) -> Option<Called>
         ensures opened { element.now.depth ≤ 100 → states_in (all_types known.now.types.now) self.new
@@ -111,14 +112,14 @@ impl Levels {
         step.called
     }
 
-    /// Whether each content has all its components, if they end here.
+    /// Whether each content has all its mandatory components if it ends here.
     pub(crate) fn is_whole(&self) -> bool
         ensures { result ≡ (self.now.whole && list_all level_ends (levels_of self.now)) }
     {
         self.whole && may_all_end(self.as_slice())
     }
 
-    /// Whether each content has all its components, if those inside this one end.
+    /// Whether each content has all its mandatory components if those inside this one end here.
     fn is_whole_inside(&self, depth: usize) -> bool
         requires { depth ≤ 100 }
         ensures { result ≡ (self.now.whole && list_all level_ends (drop (depth + 1) (levels_of self.now))) }
@@ -128,14 +129,14 @@ impl Levels {
         self.whole && may_all_end(&levels[begin..])
     }
 
-    /// What is expected where so many elements are around.
+    /// What is expected in the content with this many elements around it.
     fn level_at(&self, depth: usize) -> Option<Level>
         ensures { result ≡ slice_get (levels_of self.now) depth }
     {
         self.as_slice().get(depth).copied()
     }
 
-    /// The contents that are open.
+    /// The open contents.
     fn as_slice(&self) -> &[Level]
         ensures { result.now ≡ levels_of self.now }
     {

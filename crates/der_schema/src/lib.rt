@@ -1,4 +1,4 @@
-//! Names of the fields of an input, element after element, from types of ASN.1 that are constant data.
+//! Names of the elements of an input, one after another, by types of ASN.1 that are constant data.
 #![tactic(auto)]
 
 mod beginning;
@@ -10,9 +10,12 @@ mod matching;
 mod name_path;
 mod namer;
 pub mod schema;
+mod sign;
+pub mod words;
 
 pub use known::{KnownType, first_named, first_of, is_of_type};
-pub use matching::Name;
+pub use matching::{Name, content_of};
 pub use name_path::{NamePath, NameStep};
 pub use namer::Namer;
 pub use schema::{Schema, Secrecy};
+pub use sign::{Octets, Requirement, Sign};

@@ -1,4 +1,4 @@
-//! Which component of a schema an element is.
+//! Matching of elements with the components of a schema.
 ghost use Rattle.std.specs.Prelude.{◌≡◌, ◌+◌, Option, Some, None, slice_get};
 ghost use Rattle.der_base.specs.TreeEquality.{same_octets};
 ghost use Rattle.der_schema.specs.Encodings.{octets_at};
@@ -12,45 +12,53 @@ ghost use Rattle.der_schema.specs.Steps.{selection_in};
 
 use crate::level::{Content, Level, nothing_selected};
 use crate::schema::{Class, Component, Form, Inside, Secrecy, Selection, Type};
-use der_walk::Element;
+use crate::words::Words;
+use der_elements::Element;
 
 /// The name of an element.
 #[derive(Clone, Copy, Debug, PartialEq)]
 pub struct Name {
-    /// The identifier in the definition of the type. It is empty where that has none, as inside an explicit tag.
+    /// The identifier in the definition of the type. It is empty if there is none, such as inside an explicit tag.
     pub text: &'static str,
-    /// Whether the element is an item, which its index tells apart: of a SEQUENCE OF or SET OF, or of a content that no
-    /// type describes.
+    /// Whether the index tells the element apart. This is so for an item of a SEQUENCE OF or SET OF, and for an element
+    /// in a content that no type describes.
     pub is_item: bool,
-    /// Whether a type marks it as secret. So is then what is in it, whatever that is called.
+    /// Whether the type marks the element as secret. Everything inside it is then secret as well, whatever its name.
     pub secrecy: Secrecy,
+    /// How the type shows the element in words.
+    pub words: Option<&'static Words>,
 }
 
-/// What the types of elements depend on besides their components and the last identifier.
+/// What the matching of elements needs besides their components and the last identifier.
 #[derive(Clone, Copy)]
 pub(crate) struct Known<'a> {
-    /// The input, where identifiers are read.
+    /// The input, from which identifiers are read.
     pub input: &'a [u8],
-    /// The types of the schema that have an index.
+    /// The types that components refer to by index.
     pub types: &'a [&'static Component],
 }
 
-/// What an element is called, and how secret it is by the components that it is, each of which refers to the next.
+/// What an element is called, how secret it is, and how it is shown. An element may match several components, each of
+/// which refers to the next.
 #[derive(Clone, Copy)]
 pub(crate) struct Called {
-    /// The component that has its name.
+    /// The component that gives the name.
     pub named: &'static Component,
-    pub secrecy: Secrecy,
+    /// The most secret component. (Its mark alone would be slower: beside a reference, the compiler copies an octet
+    /// together with the unused ones after it.)
+    pub marked: &'static Component,
+    /// The words of the first component that has some.
+    pub words: Option<&'static Words>,
 }
 
-/// An element that is in a schema.
+/// An element that is in the schema.
 #[derive(Clone, Copy)]
 pub(crate) struct Found {
     pub called: Called,
     pub inside: &'static Inside,
 }
 
-/// What a schema says of an element: what it is called, what is expected inside it, and after it.
+/// What a schema tells about an element: what it is called, what is expected inside it, and what is expected after it.
 #[derive(Clone, Copy)]
 pub(crate) struct Step {
     pub called: Option<Called>,
@@ -63,7 +71,7 @@ impl Level {
     ghost use Rattle.der_schema.specs.Meaning.{all_types, expected_of, has_items, past, place_in, state_of};
     ghost use Rattle.der_schema.specs.Steps.{around, encoding_of, passed_of, place_found};
 
-    /// Goes past the next element of the content: what is expected is then what is expected after it.
+    /// Moves past the next element of the content, to what is expected after it.
     #[inline(always)]
     pub(crate) fn go_past(&mut self, element: &Element<'_>, known: &Known<'_>) -> Step
         ensures step { passed_of (all_types known.now.types.now) (has_items (expected_of self.old.expected)) result
@@ -92,7 +100,7 @@ impl Level {
         }
     }
 
-    /// What the next element is. If it is something, what is expected is then what follows that.
+    /// Matches the next element. If it is in the schema, what is expected becomes what follows it.
     #[inline(always)]
     fn find(&mut self, element: &Element<'_>, known: &Known<'_>) -> Option<Found>
         ensures place { place_found result self.new.expected
@@ -116,7 +124,7 @@ impl Level {
     }
 }
 
-/// What is inside any element.
+/// The inside of an element that no type describes.
 static ANY_ELEMENTS: Inside = Inside::Free;
 
 /// A component with no name.
@@ -125,44 +133,50 @@ static NAMELESS: Component = Component {
     optional: false,
     secrecy: Secrecy::Public,
     kind: Type::Any,
+    words: None,
 };
 
-impl Secrecy {
-    /// That of what is both: the one that lets less be printed.
-    fn or(self, other: Secrecy) -> Secrecy
-        ensures { result ≡ secret_or self other }
-    {
-        match (self, other) {
-            (Secrecy::Public, _) | (_, Secrecy::Secret) => other,
-            _ => self,
-        }
+/// The more secret of two components.
+fn more_secret(one: &'static Component, other: &'static Component) -> &'static Component
+    ensures { result.now.secrecy ≡ secret_or one.now.secrecy other.now.secrecy }
+{
+    match (one.secrecy, other.secrecy) {
+        (Secrecy::Public, _) | (_, Secrecy::Secret) => other,
+        _ => one,
     }
 }
 
 impl Called {
-    /// By this component alone.
+    /// The name, the secrecy and the words of this component.
     #[inline(always)]
     fn of(component: &'static Component) -> Called
         ensures { marked_of result ≡ mark_of component.now }
     {
         Called {
             named: component,
-            secrecy: component.secrecy,
+            marked: component,
+            words: component.words,
         }
     }
 
-    /// By this, or by another if this has no name. It is secret if one of them is.
+    /// The name and the words of this one, or of the other if this has none. It is as secret as the more secret of the
+    /// two.
     #[inline(always)]
     fn or(self, other: Called) -> Called
         ensures { marked_of result ≡ marked_or (marked_of self) (marked_of other) }
     {
-        let secrecy = self.secrecy.or(other.secrecy);
+        let marked = more_secret(self.marked, other.marked);
         let named = if self.named.name.is_empty() {
             other.named
         } else {
             self.named
         };
-        Called { named, secrecy }
+        let words = self.words.or(other.words);
+        Called {
+            named,
+            marked,
+            words,
+        }
     }
 }
 
@@ -170,7 +184,7 @@ impl Found {
     ghost use Rattle.std.specs.Prelude.{[]};
     ghost use Rattle.der_schema.specs.Meaning.{any_elements, field};
 
-    /// Any element that is called so.
+    /// An element with this name that no type describes.
     fn any(called: Called) -> Found
         ensures { field_of (Some result) ≡ Some (field (marked_of called) any_elements) }
     {
@@ -181,7 +195,7 @@ impl Found {
     }
 }
 
-/// The name of an element in the schema that is called so.
+/// The name of an element that is called this. None if it isn't in the schema.
 pub(crate) fn name_by(called: Option<Called>, is_item: bool) -> Option<Name>
     ensures { label_of result ≡ label_by is_item called }
 {
@@ -189,13 +203,14 @@ pub(crate) fn name_by(called: Option<Called>, is_item: bool) -> Option<Name>
         Some(called) => Some(Name {
             text: called.named.name,
             is_item,
-            secrecy: called.secrecy,
+            secrecy: called.marked.secrecy,
+            words: called.words,
         }),
         None => None,
     }
 }
 
-/// Whether the elements are items, which their index tells apart.
+/// Whether the index tells the elements apart.
 pub(crate) fn has_items(expected: Content) -> bool
     ensures { result ≡ has_items (expected_of expected) }
 {
@@ -205,7 +220,7 @@ pub(crate) fn has_items(expected: Content) -> bool
     }
 }
 
-/// What is expected inside an element where this is selected, and what is selected after it.
+/// What is expected inside an element if `selected` is selected, and what is selected after the element.
 #[inline(always)]
 fn entered(
     inside: &'static Inside,
@@ -244,7 +259,7 @@ fn entered(
     }
 }
 
-/// What is expected in a primitive string that holds what is selected.
+/// What is expected in a primitive string that contains what is selected.
 fn chosen(selected: &'static [Component]) -> Content
     ensures { expected_of result ≡ chosen_in selected.now }
 {
@@ -254,8 +269,8 @@ fn chosen(selected: &'static [Component]) -> Content
     }
 }
 
-/// The content octets of an element of an input. If the length is indefinite, all octets after the header.
-fn content_of<'a>(input: &'a [u8], element: &Element<'_>) -> &'a [u8]
+/// The content octets of an element of an input. With an indefinite length these are all octets after the header.
+pub fn content_of<'a>(input: &'a [u8], element: &Element<'_>) -> &'a [u8]
     ensures { result.now ≡ octets_at input.now (element.now.offset + element.now.header) element.now.length }
 {
     octets_of(
@@ -265,7 +280,7 @@ fn content_of<'a>(input: &'a [u8], element: &Element<'_>) -> &'a [u8]
     )
 }
 
-/// The octets from an offset on: so many, or all that follow.
+/// The octets from an offset on: `length` of them, or all that follow.
 fn octets_of(input: &[u8], begin: usize, length: Option<usize>) -> &[u8]
     ensures { result.now ≡ octets_at input.now begin length }
 {
@@ -276,7 +291,7 @@ fn octets_of(input: &[u8], begin: usize, length: Option<usize>) -> &[u8]
     }
 }
 
-/// A selection, or that of nothing.
+/// This selection, or the empty one.
 fn selected_or_none(selection: Option<&'static Selection>) -> &'static Selection
     ensures { components_of result.now ≡ selection_in selection.entry }
 {
@@ -286,9 +301,12 @@ fn selected_or_none(selection: Option<&'static Selection>) -> &'static Selection
     }
 }
 
-/// What an identifier selects.
+/// What an identifier selects, if it selects anything.
 #[inline(never)]
-fn selected_by(selections: &'static [Selection], identifier: &[u8]) -> Option<&'static Selection>
+pub(crate) fn selected_by(
+    selections: &'static [Selection],
+    identifier: &[u8],
+) -> Option<&'static Selection>
     ensures { selection_in result ≡ selected_by selections.now identifier.now }
 {
     let mut ahead = selections;
@@ -301,8 +319,8 @@ fn selected_by(selections: &'static [Selection], identifier: &[u8]) -> Option<&'
     None
 }
 
-/// Whether two identifiers are the same. Those of a table differ mostly in their last octet.
-fn is_same(one: &[u8], other: &[u8]) -> bool
+/// Whether two identifiers are the same. The last octet is compared first, since those of a table mostly differ there.
+pub(crate) fn is_same(one: &[u8], other: &[u8]) -> bool
     ensures { result ≡ same_octets one.now other.now }
 {
     match (one, other) {
@@ -311,7 +329,7 @@ fn is_same(one: &[u8], other: &[u8]) -> bool
     }
 }
 
-/// The content octets of the first element in these octets, if its header has two octets.
+/// The content octets of the first element in these octets. Empty if its header doesn't have two octets.
 fn first_content(octets: &[u8]) -> &[u8]
     ensures { result.now ≡ first_content octets.now }
 {
@@ -324,7 +342,7 @@ fn first_content(octets: &[u8]) -> &[u8]
     }
 }
 
-/// The first component that an element is, where those before it may be absent, and the components after it.
+/// The first component that an element matches, and the components after it. The components before it must be optional.
 fn next_of(
     components: &'static [Component],
     element: &Element<'_>,
@@ -347,7 +365,7 @@ fn next_of(
     None
 }
 
-/// The first component that an element is.
+/// The first component that an element matches.
 #[inline(never)]
 fn member_of(
     components: &'static [Component],
@@ -368,7 +386,7 @@ fn member_of(
     None
 }
 
-/// An element as this component, if it may be that.
+/// An element as this component, if it matches.
 #[inline(always)]
 fn found_as(
     component: &'static Component,
@@ -390,7 +408,7 @@ fn found_as(
     }
 }
 
-/// An element as what the last identifier selects, or any element if it selects nothing.
+/// An element as what the last identifier selects, or as any element if it selects nothing.
 #[inline(always)]
 fn selected_as(
     selected: &'static Selection,
@@ -410,7 +428,7 @@ fn selected_as(
     }
 }
 
-/// An element as this component, which may be a type by its index, called so.
+/// An element as this component, which may refer to a type by index. It is called `called`.
 #[inline(always)]
 fn referred_as(
     component: &'static Component,
@@ -427,7 +445,7 @@ fn referred_as(
     }
 }
 
-/// An element of the type with this index, called so or else by the name of the type.
+/// An element as the type with this index. It is called `called`, or else by the name of the type.
 #[inline(always)]
 fn numbered_as(
     index: usize,
@@ -448,13 +466,13 @@ fn numbered_as(
 }
 
 /// The type with this index.
-fn type_at(types: &[&'static Component], index: usize) -> Option<&'static Component>
+pub(crate) fn type_at(types: &[&'static Component], index: usize) -> Option<&'static Component>
     ensures { component_in result ≡ slice_get (all_types types.now) index }
 {
     types.get(index).copied()
 }
 
-/// An element as this component, which nothing else says, called so.
+/// An element as this component, which refers to nothing else. It is called `called`.
 #[inline(always)]
 fn plain_as(
     component: &'static Component,
@@ -481,7 +499,8 @@ fn plain_as(
     }
 }
 
-/// An element as the first alternative with its tag. It is named as that, or as the choice if that has no name.
+/// An element as the first alternative with its tag. It has the name of the alternative, or of the choice if that has
+/// none.
 #[inline(never)]
 fn alternative_of(
     alternatives: &'static [Component],
@@ -502,7 +521,7 @@ fn alternative_of(
     None
 }
 
-/// An element as this alternative, if it has its tag.
+/// An element as this alternative, if it has the tag of it.
 #[inline(always)]
 fn as_alternative(
     alternative: &'static Component,
@@ -529,7 +548,7 @@ fn as_alternative(
     }
 }
 
-/// What is found, if an element has this tag and form.
+/// What is found if an element has this tag and form.
 fn tagged_as(
     class: Class,
     number: u32,
@@ -548,7 +567,7 @@ fn tagged_as(
     }
 }
 
-/// Whether an encoding may have this form.
+/// Whether an element that is primitive or constructed has this form.
 fn fits(form: Form, constructed: bool) -> bool
     ensures { result ≡ fits form constructed }
 {

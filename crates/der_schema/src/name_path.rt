@@ -1,27 +1,27 @@
-//! Paths made of the names of fields.
+//! Paths of the names of fields.
 ghost use Rattle.std.specs.Prelude.{◌≡◌, ◌≤◌, ◌++◌, ◌∷◌, [], Some, take};
 ghost use Rattle.std.specs.Fmt.{DisplaysOnOk};
 ghost use Rattle.der_schema.specs.NamePaths.{further_names, is_silent, name_step, named_text, shown};
-ghost use Rattle.der_walk.specs.Walked.{visited_of};
+ghost use Rattle.der_elements.specs.Walked.{visited_of};
 
 use crate::matching::Name;
 use arrayvec::ArrayVec;
-use der_walk::{Element, Step};
+use der_elements::{Element, Step};
 use std::fmt;
 
-/// How many steps a path has at most: one for each element around an element, and its own.
+/// The most steps of a path: one for the element, and one for each element around it.
 const MAX_STEPS: usize = 102;
 
 /// A step of a path: an element with its name.
 #[derive(Clone, Copy, Debug, PartialEq)]
 pub struct NameStep {
-    /// Its name. None if it isn't in the schema.
+    /// The name of the element. None if it isn't in the schema.
     pub name: Option<Name>,
-    /// Its type, and its index in the content.
+    /// The type of the element, and its index in the content.
     pub step: Step,
 }
 
-/// What the unused places of a path hold.
+/// The value of unused entries.
 impl Default for NameStep {
     fn default() -> NameStep {
         NameStep {
@@ -32,7 +32,8 @@ impl Default for NameStep {
 }
 
 impl NameStep {
-    /// Whether it has no text: its element is the only one inside an explicit tag, whose name stands for both.
+    /// Whether the step isn't written. This is so for the only element inside an explicit tag: the name of the tag
+    /// stands for both.
     fn is_silent(&self) -> bool
         ensures { result ≡ is_silent self.now }
     {
@@ -43,7 +44,8 @@ impl NameStep {
     }
 }
 
-/// The name of a component, the index of an item as `[2]`, or the step of a walk if the element isn't in the schema.
+/// The name of a component, the index of an item such as `[2]`, or the step of a walk if the element isn't in the
+/// schema.
 impl fmt::Display for NameStep {
     ghost use Rattle.std.specs.Prelude.{Some};
     ghost use Rattle.der_schema.specs.NamePaths.{name_step_text};
@@ -59,7 +61,7 @@ impl fmt::Display for NameStep {
     }
 }
 
-/// Writes the step of an element in the schema.
+/// Writes the step of an element that is in the schema.
 fn write_named<W: fmt::Write>(f: &mut fmt::Formatter<W>, name: Name, index: usize) -> fmt::Result
     ensures { DisplaysOnOk W.Write.write_str_gives f.old result (Some (named_text name index)) f.new }
 {
@@ -71,13 +73,13 @@ fn write_named<W: fmt::Write>(f: &mut fmt::Formatter<W>, name: Name, index: usiz
     }
 }
 
-/// A step after others.
+/// A step after the first.
 #[derive(Clone, Copy)]
 struct Further {
     step: NameStep,
 }
 
-/// Its text, after a point if it is no index.
+/// The text of the step, after a dot unless it is an index.
 impl fmt::Display for Further {
     ghost use Rattle.std.specs.Prelude.{◌++◌, Some};
     ghost use Rattle.der_schema.specs.NamePaths.{name_step_text, point_text};
@@ -93,8 +95,8 @@ impl fmt::Display for Further {
     }
 }
 
-/// The path to the element that a walk visited last, made of names: a step for each element around it but the
-/// outermost, and its own, as `tbsCertificate.extensions[2].extnValue`. It takes no memory.
+/// The path of names to the last element that a walk visited, such as `tbsCertificate.extensions[2].extnValue`. It has
+/// a step for each element around that one except the outermost, and a step for itself. It doesn't allocate.
 ///
 /// # Examples
 ///
@@ -111,7 +113,7 @@ pub struct NamePath {
 }
 
 impl NamePath {
-    /// The path before a walk.
+    /// The path before a walk begins.
     pub fn new() -> NamePath
         ensures { result.steps.items ≡ [] }
     {
@@ -120,7 +122,7 @@ impl NamePath {
         }
     }
 
-    /// Goes on to the element that is visited next, which has this name.
+    /// Moves on to the next visited element, which has this name.
     pub fn enter(&mut self, element: &Element<'_>, name: Option<Name>)
         requires { element.now.depth ≤ 100 }
         ensures { self.new.steps.items ≡ take element.now.depth self.old.steps.items
@@ -152,7 +154,7 @@ impl fmt::Display for NamePath {
     }
 }
 
-/// The steps from the first on that has a text.
+/// The steps from the first one that is written.
 fn shown(steps: &[NameStep]) -> &[NameStep]
     ensures { result.now ≡ shown steps.now }
 {
@@ -166,7 +168,7 @@ fn shown(steps: &[NameStep]) -> &[NameStep]
     &[]
 }
 
-/// Writes steps, each after what separates it from those before.
+/// Writes steps, each after its separator.
 fn write_further<W: fmt::Write>(f: &mut fmt::Formatter<W>, steps: &[NameStep]) -> fmt::Result
     ensures { DisplaysOnOk W.Write.write_str_gives f.old result (Some (further_names steps.now)) f.new }
 {

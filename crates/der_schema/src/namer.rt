@@ -1,13 +1,13 @@
-//! The names of elements in preorder.
+//! Names of elements in preorder.
 ghost use Rattle.std.specs.Prelude.{◌≡◌, ◌≤◌, [], List, ℕ};
 
 use crate::level::{Content, Level, nothing_selected};
 use crate::levels::Levels;
 use crate::matching::{Known, Name, name_by};
 use crate::schema::Schema;
-use der_walk::Element;
+use der_elements::Element;
 
-/// Names the elements of an input by a schema, one after another in preorder. It takes no memory.
+/// Names the elements of an input by a schema, one after another in preorder. It doesn't allocate.
 ///
 /// # Examples
 ///
@@ -26,14 +26,14 @@ pub struct Namer<'a> {
 }
 
 impl<'a> Namer<'a> {
-    ghost use Rattle.der_walk.specs.Visits.{Visited};
-    ghost use Rattle.der_walk.specs.Walked.{visited_of};
+    ghost use Rattle.der_elements.specs.Visits.{Visited};
+    ghost use Rattle.der_elements.specs.Walked.{visited_of};
     ghost use Rattle.der_schema.specs.Meaning.{Root, root_of};
     ghost use Rattle.der_schema.specs.Ends.{is_whole_after};
     ghost use Rattle.der_schema.specs.Encodings.{all_seen};
     ghost use Rattle.der_schema.specs.Named.{HasNamed, NamesNext};
 
-    /// A namer of the elements of an input that is to be of this type.
+    /// A namer for the elements of an input that should have this type.
     pub fn new(input: &'a [u8], schema: Schema<'a>) -> Namer<'a>
         ensures { HasNamed (root_of schema.entry) input.now [] result }
     {
@@ -50,8 +50,8 @@ impl<'a> Namer<'a> {
         }
     }
 
-    /// The name of the next element that a walk through the input visits. None if the element isn't in the schema:
-    /// then none inside it has a name, and none after it in the same content.
+    /// The name of the next element that a walk through the input visits. None if the element isn't in the schema. Then
+    /// no element inside it has a name, and none after it in the same content.
     pub fn name_of(&mut self, element: &Element<'_>) -> Option<Name>
         ensures { (sc : Root) (i : List ℕ) (vs : List Visited) → HasNamed sc i vs self.old → element.now.depth ≤ 100
             → NamesNext sc i vs (visited_of element.now) self.new result }
@@ -60,7 +60,7 @@ impl<'a> Namer<'a> {
         name_by(self.levels.pass(element, &self.known), is_item)
     }
 
-    /// Whether each content of the elements so far has all its mandatory components, if they end here.
+    /// Whether each content so far has all its mandatory components if the input ends here.
     pub fn is_whole(&self) -> bool
         ensures { (sc : Root) (i : List ℕ) (vs : List Visited) → HasNamed sc i vs self.now
             → result ≡ is_whole_after sc (all_seen i vs) }

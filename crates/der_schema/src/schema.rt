@@ -1,12 +1,13 @@
 //! Types of ASN.1 as constant data (X.680), and macros that write them.
+use crate::words::Words;
 pub use der_base::header::Class;
 
-/// A type that an input may be of.
+/// A type that an input may have.
 #[derive(Clone, Copy)]
 pub struct Schema<'a> {
-    /// Its name in the document that defines it, as `Certificate`.
+    /// The name in the document that defines the type, such as `Certificate`.
     pub name: &'static str,
-    /// What the elements of an input are.
+    /// The elements of an input of this type.
     pub components: &'static [Component],
     /// The types that components refer to by index, each with its name.
     pub types: &'a [&'static Component],
@@ -17,7 +18,7 @@ pub struct Schema<'a> {
 pub enum Form {
     Primitive,
     Constructed,
-    /// Either, as that of a string by BER (X.690 8.6, 8.7, 8.23).
+    /// Either one, such as a string by BER (X.690 8.6, 8.7, 8.23).
     Either,
 }
 
@@ -25,9 +26,9 @@ pub enum Form {
 #[derive(Clone, Copy, Debug, PartialEq)]
 pub enum Secrecy {
     Public,
-    /// Not where no element inside is visited, as those of a string in pieces, since a private key may be in it.
+    /// Not if no element inside is visited, such as in a constructed string, since a private key may be in it.
     SecretUnread,
-    /// Not at all: they are or hold a private key.
+    /// Never: they are a private key, or contain one.
     Secret,
 }
 
@@ -36,54 +37,57 @@ pub enum Secrecy {
 #[cycle(schema)]
 #[derive(Clone, Copy)]
 pub struct Component {
-    /// Its identifier, or nothing.
+    /// The identifier, or empty.
     pub name: &'static str,
-    /// Whether it is OPTIONAL or has a DEFAULT.
+    /// Whether the component is OPTIONAL or has a DEFAULT.
     pub optional: bool,
-    /// Whether what is this component is secret, whatever its type and its name are.
+    /// Whether an element that matches this component is secret, whatever its type and its name.
     pub secrecy: Secrecy,
     pub kind: Type,
+    /// How the element is shown in words. None: as is said around it, or not at all.
+    pub words: Option<&'static Words>,
 }
 
-/// What a type is encoded as.
+/// How a type is encoded.
 #[cycle(schema)]
 #[derive(Clone, Copy)]
 pub enum Type {
     /// Any element.
     Any,
-    /// An element with this tag and form: the tag of a universal type, an implicit one, or an explicit one, which has
-    /// one component inside (X.690 8.14).
+    /// An element with this tag and form. The tag is that of a universal type, an implicit one, or an explicit one,
+    /// which has one component inside (X.690 8.14).
     Tagged(Class, u32, Form, Inside),
-    /// One of these, each with a tag.
+    /// One of these alternatives, each with a tag.
     Choice(&'static [Component]),
     /// What the last identifier selects, or any element if it selects nothing.
     Selected,
-    /// The type with this index in the schema. Its name is that of the component, or else the type's.
+    /// The type with this index in the schema. An element has the name of the component, or of the type if that has
+    /// none.
     Numbered(usize),
 }
 
-/// What the elements inside an element are.
+/// The elements inside an element.
 #[cycle(schema)]
 #[derive(Clone, Copy)]
 pub enum Inside {
     /// Any elements.
     Free,
-    /// No element of the schema.
+    /// No elements that are in the schema.
     Nothing,
-    /// These components, in their order.
+    /// These components, in this order.
     Components(&'static [Component]),
-    /// These components, in any order, as BER has them in a SET. They may repeat or lack.
+    /// These components, in any order, as in a SET by BER. A component may repeat or be missing.
     Members(&'static [Component]),
-    /// Items, each of them this.
+    /// Any number of items like this one.
     Each(&'static Component),
-    /// These components, in a primitive string. In a constructed one its parts, which are any elements.
+    /// These components, in a primitive string. A constructed string has any elements, its parts.
     Holds(&'static [Component]),
-    /// What the last identifier selects, in a primitive string. Else any elements.
+    /// What the last identifier selects, in a primitive string. A constructed string has any elements.
     Chosen,
-    /// No elements: its content octets are an identifier, which selects what an element after it is.
+    /// No elements. The content octets are an identifier, which selects the type of a later element.
     Selects(&'static [Selection]),
-    /// These components, in their order. The content octets of the first element are an identifier, which selects what
-    /// an element after this one is.
+    /// These components, in this order. The content octets of the first element are an identifier, which selects the
+    /// type of an element after this one.
     Begins(&'static [Component], &'static [Selection]),
 }
 
@@ -91,21 +95,25 @@ pub enum Inside {
 #[cycle(schema)]
 #[derive(Clone, Copy)]
 pub struct Selection {
-    /// Its content octets, as those of an OBJECT IDENTIFIER (X.690 8.19).
+    /// The content octets of the identifier, as in an OBJECT IDENTIFIER (X.690 8.19).
     pub identifier: &'static [u8],
-    /// One component: what the selected element is, or the element in a string.
+    /// One component: the type of the selected element, or of the element in a string.
     pub components: &'static [Component],
 }
 
-/// A mandatory component: `field!("serialNumber" INTEGER)`. One that is secret:
-/// `field!("privateKey" OCTET_STRING => Secret)`.
+/// A mandatory component: `field!("serialNumber" INTEGER)`. If it is secret:
+/// `field!("privateKey" OCTET_STRING => Secret)`. With its words:
+/// `field!("error-index" INTEGER => "Error index" Number)`.
 #[macro_export]
 macro_rules! field {
     ($name:literal $kind:expr) => {
-        $crate::component!($name false Public $kind)
+        $crate::component!($name false Public $kind, None)
     };
     ($name:literal $kind:expr => $secrecy:ident) => {
-        $crate::component!($name false $secrecy $kind)
+        $crate::component!($name false $secrecy $kind, None)
+    };
+    ($name:literal $kind:expr => $($words:tt)+) => {
+        $crate::component!($name false Public $kind, Some(&$crate::words!($($words)+)))
     };
 }
 
@@ -113,27 +121,31 @@ macro_rules! field {
 #[macro_export]
 macro_rules! optional {
     ($name:literal $kind:expr) => {
-        $crate::component!($name true Public $kind)
+        $crate::component!($name true Public $kind, None)
     };
     ($name:literal $kind:expr => $secrecy:ident) => {
-        $crate::component!($name true $secrecy $kind)
+        $crate::component!($name true $secrecy $kind, None)
+    };
+    ($name:literal $kind:expr => $($words:tt)+) => {
+        $crate::component!($name true Public $kind, Some(&$crate::words!($($words)+)))
     };
 }
 
-/// A component that may be absent or not, and is secret or not.
+/// A component that is optional or mandatory, and secret or not, with its words or none.
 #[macro_export]
 macro_rules! component {
-    ($name:literal $optional:literal $secrecy:ident $kind:expr) => {
+    ($name:literal $optional:literal $secrecy:ident $kind:expr, $words:expr) => {
         $crate::schema::Component {
             name: $name,
             optional: $optional,
             secrecy: $crate::schema::Secrecy::$secrecy,
             kind: $kind,
+            words: $words,
         }
     };
 }
 
-/// The universal type with this tag number, if it is no string, SEQUENCE or SET.
+/// The universal type with this tag number, unless it is a string, SEQUENCE or SET.
 #[macro_export]
 macro_rules! universal {
     ($number:literal) => {
@@ -141,7 +153,7 @@ macro_rules! universal {
     };
 }
 
-/// The universal string type with this tag number, with what it holds if a document says so.
+/// The universal string type with this tag number. If a document defines what the string contains, that is given too.
 #[macro_export]
 macro_rules! string {
     ($number:literal) => {
@@ -160,7 +172,7 @@ macro_rules! sequence {
     };
 }
 
-/// A SET of these components, in the order of their tags, as DER has them (X.690 10.3).
+/// A SET of these components, in the order of their tags as in DER (X.690 10.3).
 #[macro_export]
 macro_rules! set {
     ($($component:expr),* $(,)?) => {
@@ -184,7 +196,7 @@ macro_rules! set_of {
     };
 }
 
-/// The explicit tag with this number of the class ContextSpecific, or of another class.
+/// An explicit tag with this number, of the class ContextSpecific or of another class.
 #[macro_export]
 macro_rules! explicit {
     ($number:literal $component:expr) => {
@@ -195,7 +207,7 @@ macro_rules! explicit {
     };
 }
 
-/// An implicit tag: of a primitive type that is no string, of `string`, or of a constructed type with this inside.
+/// An implicit tag of a primitive type that isn't a string, of a `string`, or of a constructed type with this inside.
 #[macro_export]
 macro_rules! implicit {
     ($number:literal) => {

@@ -1,8 +1,8 @@
 -- Octets that are one of a certificate, a list and a request are none of the three no more.
 use Rattle.std.proofs.Common.{List, ℕ, Some, None, inl, inr}
-use Rattle.crl_reader.specs.Lists.{certificate_list_of, whole_list}
-use Rattle.der_request.specs.Requests.{request_of, whole_request}
-use Rattle.der_x509.specs.Certificates.{certificate_of, whole_certificate}
+use Rattle.x509.specs.Crl.Lists.{certificate_list_of, whole_list}
+use Rattle.x509_keys.specs.Request.Requests.{request_of, whole_request}
+use Rattle.x509.specs.Certificates.{certificate_of, whole_certificate}
 use Rattle.der_show.specs.declared.known.Known.{Known}
 use Rattle.der_show.specs.Known.{IsKnown, IsKnownList, IsKnownRequest, IsNo}
 

@@ -8,9 +8,9 @@ use Rattle.std.specs.Bool.{MatchBool}
 use Rattle.std.specs.Option.{is_some, option_to_list}
 use Rattle.der_base.specs.declared.rules.Rules.{Rules}
 use Rattle.der_base.specs.declared.rules.Rules.TheVariants.{Ber}
-use Rattle.der_fields.specs.Fields.{label_after, label_text}
-use Rattle.der_fields.specs.Secrets.{IsSecret, OpenBy, is_secret, secret_text}
-use Rattle.der_fields.proofs.OpenLaws.{inside_none, inside_one, open_none, past_inside, past_one, past_other}
+use Rattle.text_json.specs.Fields.Fields.{label_after, label_text}
+use Rattle.text_json.specs.Fields.Secrets.{IsSecret, OpenBy, is_secret, secret_text}
+use Rattle.text_json.proofs.FieldsLaws.OpenLaws.{inside_none, inside_one, open_none, past_inside, past_one, past_other}
 use Rattle.der_print.specs.Lines.{content_in}
 use Rattle.der_print.specs.Texts.{content_of}
 use Rattle.der_print.proofs.LineLaws.{content_is, line_of}
@@ -21,10 +21,10 @@ use Rattle.der_schema.specs.Known.{all_extras}
 use Rattle.der_schema.specs.Meaning.{root_of}
 use Rattle.der_schema.specs.Named.{HasNamed, NamesNext}
 use Rattle.der_schema.specs.Steps.{label_of}
-use Rattle.der_walk.specs.declared.element.Element.{Element}
-use Rattle.der_walk.specs.declared.walk.Walk.{Walk}
-use Rattle.der_walk.specs.Visits.{Visited, Visits}
-use Rattle.der_walk.specs.Walked.{HasOctets, HasVisited, visited_of}
+use Rattle.der_elements.specs.declared.element.Element.{Element}
+use Rattle.der_elements.specs.declared.walk.Walk.{Walk}
+use Rattle.der_elements.specs.Visits.{Visited, Visits}
+use Rattle.der_elements.specs.Walked.{HasOctets, HasVisited, visited_of}
 use Rattle.der_show.specs.declared.field_lines.Written.{Written}
 use Rattle.der_show.specs.declared.manner.Manner.{Manner}
 use Rattle.der_show.specs.declared.manner.Manner.TheVariants.{InLeaf, InWords, Plain, Secret}

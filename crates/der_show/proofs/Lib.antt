@@ -1,4 +1,5 @@
 pub mod BrokenLines
+pub mod ByTypeLaws
 pub mod Found
 pub mod KnownLaws
 pub mod LeafLaws

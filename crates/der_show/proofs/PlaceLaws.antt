@@ -16,15 +16,15 @@ use Rattle.der_schema.specs.Meaning.{Root}
 use Rattle.der_schema.specs.Named.{HasNamed, NamesNext}
 use Rattle.der_schema.specs.NamePaths.{name_step}
 use Rattle.der_schema.specs.Steps.{label_of}
-use Rattle.der_fields.specs.Fields.{label_text}
-use Rattle.der_walk.specs.declared.element.Element.{Element}
-use Rattle.der_walk.specs.declared.walk.Walk.{Walk}
-use Rattle.der_walk.specs.Visits.{Visited}
-use Rattle.der_walk.specs.Walked.{HasOctets, HasVisited, index_in, visited_of}
+use Rattle.text_json.specs.Fields.Fields.{label_text}
+use Rattle.der_elements.specs.declared.element.Element.{Element}
+use Rattle.der_elements.specs.declared.walk.Walk.{Walk}
+use Rattle.der_elements.specs.Visits.{Visited}
+use Rattle.der_elements.specs.Walked.{HasOctets, HasVisited, index_in, visited_of}
 use Rattle.der_show.specs.declared.place.Place.{Place}
 use Rattle.der_show.specs.Around.{around_past, kept}
 use Rattle.der_show.specs.Places.{IsExtensionOf, IsIdentifier, IsInExtension, IsNamePath, StandsAt, further, inside, named, outside}
-use Rattle.der_fields.proofs.OpenLaws.{last_same, no_last}
+use Rattle.text_json.proofs.FieldsLaws.OpenLaws.{last_same, no_last}
 
 -- the last of these elements is in this extension alone, or in none
 abbrev pub AroundBy : Root → List ℕ → List Visited → Option (ℕ × List ℕ) → Type 0

@@ -2,15 +2,15 @@
 use Rattle.std.proofs.Common.{◌≡◌, ◌↔◌, ◌++◌, ◌∷◌, [], List, Bool, true, false, not, Option, Some, None, MatchOption, IsTrue, is_some, refl, sym, subst, true≢false}
 use Rattle.std.specs.List.{All}
 use Rattle.std.proofs.lemmas.List.Elements.{All-head, All-tail}
-use Rattle.crl_reader.specs.Lists.{Signed as SignedList}
-use Rattle.der_x509.specs.Certificates.{Signed as SignedCertificate}
+use Rattle.x509.specs.Crl.Lists.{Signed as SignedList}
+use Rattle.x509.specs.Certificates.{Signed as SignedCertificate}
 use Rattle.x509_rules.specs.declared.broken.BrokenRules.{BrokenRules}
 use Rattle.x509_rules.specs.declared.certificate.Rule.{Rule}
-use Rattle.x509_crl_rules.specs.declared.revoked.BrokenListRules.{BrokenListRules}
-use Rattle.x509_crl_rules.specs.declared.revoked.ListRule.{ListRule}
+use Rattle.x509_rules.specs.declared.crl.revoked.BrokenListRules.{BrokenListRules}
+use Rattle.x509_rules.specs.declared.crl.revoked.ListRule.{ListRule}
 use Rattle.x509_rules.specs.Broken.{YieldsBroken, certificate_in, rules_left}
 use Rattle.x509_rule_facts.specs.Firsts.{IsFirstOf}
-use Rattle.x509_crl_rules.specs.ListRules.{BreaksList, YieldsBrokenOfList, list_in, list_rules_left}
+use Rattle.x509_rules.specs.Crl.ListRules.{BreaksList, YieldsBrokenOfList, list_in, list_rules_left}
 use Rattle.x509_rules.specs.Rules.{Breaks}
 
 -- what holds of each holds of one of them

@@ -1,13 +1,13 @@
 -- Which of three errors comes first.
 use Rattle.std.proofs.Common.{◌≡◌, ℕ, ◌<◌, ◌≤◌, ◌⊎◌, Bool, true, false, if◌then◌else◌, nat_le, List, Some, refl, inl, inr, arith}
 use Rattle.std.proofs.lemmas.Bool.Decides.{nat_tests}
-use Rattle.crl_reader.specs.declared.refusal.ListRefusal.{ListRefusal}
-use Rattle.crl_reader.specs.Lists.{field_fault as list_fault, whole_list}
-use Rattle.der_request.specs.declared.refusal.RequestRefusal.{RequestRefusal}
-use Rattle.der_request.specs.Requests.{field_fault as request_fault, whole_request}
-use Rattle.der_x509.specs.declared.refusal.CertificateRefusal.{CertificateRefusal}
-use Rattle.der_x509.specs.Certificates.{whole_certificate}
-use Rattle.der_x509.specs.Readers.{field_fault as certificate_fault}
+use Rattle.x509.specs.declared.crl.refusal.ListRefusal.{ListRefusal}
+use Rattle.x509.specs.Crl.Lists.{field_fault as list_fault, whole_list}
+use Rattle.x509_keys.specs.declared.request.refusal.RequestRefusal.{RequestRefusal}
+use Rattle.x509_keys.specs.Request.Requests.{field_fault as request_fault, whole_request}
+use Rattle.x509.specs.declared.refusal.CertificateRefusal.{CertificateRefusal}
+use Rattle.x509.specs.Certificates.{whole_certificate}
+use Rattle.x509.specs.Readers.{field_fault as certificate_fault}
 use Rattle.der_show.specs.declared.refused.Refused.{Refused}
 use Rattle.der_show.specs.declared.refused.Refused.TheVariants.{Certificate, CertificateList, CertificationRequest}
 use Rattle.der_show.specs.Refused.{ComesFirst, Refuses, further, offset_of, order_of}

@@ -7,7 +7,7 @@ use Rattle.extension_text.specs.Why.{why_of}
 use Rattle.der_base.specs.declared.error.Error.{Error as BerError}
 use Rattle.der_base.specs.declared.header.Class.{Class}
 use Rattle.der_cursor.specs.declared.refusal.Refusal.{Refusal}
-use Rattle.der_walk.specs.declared.name.TypeName.{TypeName}
+use Rattle.der_elements.specs.declared.name.TypeName.{TypeName}
 use Rattle.der_show.specs.declared.place.Place.{Place}
 use Rattle.der_show.specs.declared.refused.Refused.{Refused}
 use Rattle.der_show.specs.Refused.{refusal_of}

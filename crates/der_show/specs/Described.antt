@@ -1,4 +1,4 @@
--- What octets are, in words.
+-- The summary of octets.
 use Rattle.std.specs.Prelude.{◌≡◌, ◌⊎◌, ◌↔◌, IsTrue, true, ℕ, Option, Some, None, List}
 use Rattle.der_known.specs.declared.known.KnownTypes.{KnownTypes}
 use Rattle.der_known.specs.Tables.{AreKnown}
@@ -9,21 +9,22 @@ use Rattle.der_show.specs.Known.{IsKnown, KeepsRules}
 use Rattle.der_show.specs.Messages.{IsMessage}
 use Rattle.der_show.specs.Shown.{IsShown}
 
--- there are words, those of what was read from i
+-- there is a summary, that of what was read from i
 abbrev pub AreWordsOf : Option ℕ → List ℕ → Known → Option Words → Type 0
 AreWordsOf now i known (Some w) = IsShown now i known w.text.items × (w.words_at ≡ 0)
     × (IsTrue w.keeps_rules ↔ KeepsRules known)
 AreWordsOf now i known None = ⊥
 
--- the words of the key or the message that octets are, which have no rules beyond their ASN.1, or else by the fields of
--- the first type that they are of
+-- the summary of the key or the message that octets are, which has no rules beyond its ASN.1, or else the text by the
+-- fields of the first type that the octets have
 abbrev pub AreOtherWords : Option ℕ → KnownTypes → List ℕ → Option Words → Type 0
 AreOtherWords now types i (Some w) =
-    (IsMessage i (Some w.text.items) × (w.words_at ≡ 0) × (w.keeps_rules ≡ true))
-    ⊎ (IsMessage i None × IsByFields now types i (Some w))
-AreOtherWords now types i None = IsMessage i None × IsByFields now types i None
+    (IsMessage types i (Some w.text.items) × (w.words_at ≡ 0) × (w.keeps_rules ≡ true))
+    ⊎ (IsMessage types i None × IsByFields now types i (Some w))
+AreOtherWords now types i None = IsMessage types i None × IsByFields now types i None
 
--- the words of the certificate, the list or the request that i is, or else of the key, the message or the known type
+-- the summary of the certificate, CRL or certification request that i is, or else of the key, the message or the known
+-- type
 abbrev pub IsDescribed : Option ℕ → List ℕ → Option Words → Type 0
 IsDescribed now i words = ((known : Known) × IsKnown i (Some known) × AreWordsOf now i known words)
     ⊎ (IsKnown i None × (types : KnownTypes) × AreKnown types × AreOtherWords now types i words)

@@ -1,14 +1,14 @@
--- Octets that are of a known type, by the names of their fields.
+-- Octets of a known type, with the names of their fields.
 use Rattle.std.specs.Prelude.{◌≡◌, ◌⊎◌, ◌↔◌, ℕ, Bool, true, false, IsTrue, ◌&&◌, Option, Some, None}
 use Rattle.std.specs.Prelude.{List, [], ◌∷◌, ◌++◌, codes, length}
 use Rattle.der_base.specs.declared.rules.Rules.TheVariants.{Ber}
-use Rattle.der_fields.specs.Secrets.{IsSecret, secret_text}
+use Rattle.text_json.specs.Fields.Secrets.{IsSecret, secret_text}
 use Rattle.der_known.specs.declared.known.KnownTypes.{KnownTypes}
 use Rattle.der_print.specs.Lines.{IsFieldLine, content_in}
 use Rattle.der_schema.specs.declared.schema.Schema.{Schema}
-use Rattle.der_schema.specs.Known.{IsFirstSchema, IsOfType, all_extras, root_at}
+use Rattle.der_schema.specs.Known.{IsFirstSchema, IsKnownType, all_extras}
 use Rattle.der_schema.specs.Meaning.{all_types, root_of}
-use Rattle.der_walk.specs.Visits.{Visited, Visits}
+use Rattle.der_elements.specs.Visits.{Visited, Visits}
 use Rattle.der_show.specs.declared.known.Known.{Known}
 use Rattle.der_show.specs.declared.words.Words.{Words}
 use Rattle.der_show.specs.InWords.{octets_in}
@@ -16,18 +16,18 @@ use Rattle.der_show.specs.Known.{IsKnown, KeepsRules}
 use Rattle.der_show.specs.Leaves.{IsInLeaf, field_of, fields_style, leaf_line, words_text}
 use Rattle.der_show.specs.Shown.{IsShown}
 
--- what is said of elements: their lines, the words of those that are certificates, lists or requests, and that these
--- break no rule
+-- what is written for elements: their lines, the summaries of those that are certificates, CRLs or certification
+-- requests, and whether these keep all rules
 pub record Said : Type 0 where
   pub lines : List ℕ
   pub words : List ℕ
   pub keeps_rules : Bool
 
--- lines alone
+-- only lines
 abbrev pub lines_alone : List ℕ → Said
 lines_alone text = record { lines = text; words = []; keeps_rules = true }
 
--- what is said first, and after it
+-- what is written first, and then
 abbrev pub joined : Said → Said → Said
 joined a b = record {
   lines = a.lines ++ b.lines;
@@ -35,8 +35,8 @@ joined a b = record {
   keeps_rules = a.keeps_rules && b.keeps_rules;
 }
 
--- what is said of an element after others of an input: nothing in a leaf, no value of a secret one, the words of what
--- it is, or its line, with the name of its field
+-- what is written for an element after others of an input: nothing inside a leaf, no value of a secret one, a summary,
+-- or its line with the name of its field
 pub data IsSaid (now : Option ℕ) (sc : Schema) (i : List ℕ) (before : List Visited) (v : Visited) : Said → Type 0 where
   in_leaf : {s : Said} → IsInLeaf sc i before v → s ≡ lines_alone [] → IsSaid now sc i before v s
   secret : {s : Said} → ¬ IsInLeaf sc i before v → IsSecret (root_of sc) i before v
@@ -49,15 +49,15 @@ pub data IsSaid (now : Option ℕ) (sc : Schema) (i : List ℕ) (before : List V
       → IsKnown (octets_in i v) None → IsFieldLine (field_of sc i before v) fields_style v (content_in i v) line
       → s ≡ lines_alone line → IsSaid now sc i before v s
 
--- what is said of the first elements of an input, in their order
+-- what is written for the first elements of an input, in order
 pub data AreShown (now : Option ℕ) (sc : Schema) (i : List ℕ) : List Visited → Said → Type 0 where
   none_said : {vs : List Visited} {s : Said} → vs ≡ [] → s ≡ lines_alone [] → AreShown now sc i vs s
   one_more : {vs : List Visited} {s : Said} (before : List Visited) (v : Visited) (first last : Said)
       → vs ≡ before ++ v ∷ [] → AreShown now sc i before first → IsSaid now sc i before v last
       → s ≡ joined first last → AreShown now sc i vs s
 
--- The words of octets that are of a type, by BER: its name, the lines of their elements, and then the words of those
--- that are certificates, lists or requests. The rules are those that these break.
+-- The text for octets that have a type by BER: its name, the lines of their elements, and then the summaries of those
+-- that are certificates, CRLs or certification requests. The rules are those of these elements.
 pub record AreWordsByFields (now : Option ℕ) (sc : Schema) (i : List ℕ) (w : Words) : Type 0 where
   pub elements : List Visited
   pub visits : Visits all_extras Ber 101 0 0 i elements
@@ -67,20 +67,19 @@ pub record AreWordsByFields (now : Option ℕ) (sc : Schema) (i : List ℕ) (w :
   pub start : w.words_at ≡ length (sc.name.now ++ codes "\n" ++ said.lines)
   pub rules : w.keeps_rules ≡ said.keeps_rules
 
--- the first of some types that octets are of, by BER; there is none if they are of no one
+-- the first of some types that octets have by BER; None if they have none
 abbrev pub IsTypeOf : KnownTypes → List ℕ → Option Schema → Type 0
 IsTypeOf types i found =
-    let ts = all_types types.types in
-    IsFirstSchema (λ k. IsOfType (root_at ts k) Ber i) types.known.now ts found
+    let ts = all_types types.types in IsFirstSchema (IsKnownType ts Ber i) types.known.now ts found
 
--- the types that are only shown by their readers, which read DER: a certificate, a list or a request that isn't DER
--- breaks a rule, and private keys are secret
+-- the types that are only shown by their readers, which read DER: a certificate, CRL or certification request that
+-- isn't DER breaks a rule, and private keys are secret
 abbrev pub IsReadAlone : List ℕ → Type 0
 IsReadAlone name = (name ≡ codes "Certificate") ⊎ (name ≡ codes "CertificateList")
     ⊎ (name ≡ codes "CertificationRequest") ⊎ (name ≡ codes "PrivateKeyInfo") ⊎ (name ≡ codes "RSAPrivateKey")
     ⊎ (name ≡ codes "ECPrivateKey")
 
--- the words of octets by that type, if there is one that isn't only shown so
+-- the text for octets by that type, if there is one that isn't only shown by its reader
 abbrev pub IsByFields : Option ℕ → KnownTypes → List ℕ → Option Words → Type 0
 IsByFields now types i (Some w) = (sc : Schema) × IsTypeOf types i (Some sc) × (¬ IsReadAlone sc.name.now)
     × AreWordsByFields now sc i w

@@ -1,4 +1,5 @@
 pub mod Around
+pub mod ByTypes
 pub mod Described
 pub mod FieldLines
 pub mod Fields

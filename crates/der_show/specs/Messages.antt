@@ -1,13 +1,14 @@
--- Keys and messages: which of them octets are, and its text.
-use Rattle.std.specs.Prelude.{◌≡◌, ◌⊎◌, ℕ, Option, Some, None, List, []}
+-- Keys and messages, and their summaries.
+use Rattle.std.specs.Prelude.{◌≡◌, ◌⊎◌, ℕ, Option, Some, None, List, [], codes}
 use Rattle.std.specs.Global.{Vec}
 use Rattle.std.specs.Option.{option_map}
 use Rattle.der_base.specs.declared.rules.Rules.{Rules}
 use Rattle.der_base.specs.declared.rules.Rules.TheVariants.{Ber, Der}
 use Rattle.der_cursor.specs.Formats.{Format, Only, Required}
-use Rattle.der_x509.specs.Formats.{Format as KeyFormat, spells}
-use Rattle.kerberos_reader.specs.Requests.{AsReq, request_of}
-use Rattle.ldap_reader.specs.Messages.{Message as LdapMessage, message_of as ldap_of}
+use Rattle.der_known.specs.declared.known.KnownTypes.{KnownTypes}
+use Rattle.x509.specs.Formats.{Format as KeyFormat, spells}
+use Rattle.messages.specs.Kerberos.Requests.{AsReq, request_of}
+use Rattle.messages.specs.Ldap.Messages.{Message as LdapMessage, message_of as ldap_of}
 use Rattle.message_text.specs.declared.algorithm.EncryptedKeyText.{EncryptedKeyText}
 use Rattle.message_text.specs.declared.curve_key.EcKeyText.{EcKeyText}
 use Rattle.message_text.specs.declared.private_key.PrivateKeyText.{PrivateKeyText}
@@ -19,18 +20,18 @@ use Rattle.message_text.specs.Ldap.{ldap_text}
 use Rattle.message_text.specs.PrivateKeys.{IsPrivateKey as IsKeyShown, private_key_text}
 use Rattle.message_text.specs.PublicKeys.{IsPublicKey as IsPublicShown, public_key_text}
 use Rattle.message_text.specs.RsaKeys.{rsa_key_text}
-use Rattle.message_text.specs.Snmp.{snmp_text}
-use Rattle.pkcs8_reader.specs.Fields.{KeyFault}
-use Rattle.pkcs8_reader.specs.Keys.{key_of, rsa_of, whole_key, whole_rsa_key}
-use Rattle.pkcs8_reader.specs.OtherKeys.{ec_of, encrypted_of, key_info_of, whole_ec_key, whole_encrypted_key}
-use Rattle.pkcs8_reader.specs.OtherKeys.{whole_public_key}
-use Rattle.snmp_reader.specs.Messages.{Message as SnmpMessage, message_of as snmp_of}
+use Rattle.der_show.specs.ByTypes.{ShowsByType}
+use Rattle.x509_keys.specs.Fields.{KeyFault}
+use Rattle.x509_keys.specs.Keys.{key_of, rsa_of, whole_key, whole_rsa_key}
+use Rattle.x509_keys.specs.OtherKeys.{ec_of, encrypted_of, key_info_of, whole_ec_key, whole_encrypted_key}
+use Rattle.x509_keys.specs.OtherKeys.{whole_public_key}
+use Rattle.messages.specs.Snmp.Messages.{Message as SnmpMessage, MessageValue as SnmpValue}
 
 -- a text in memory, if there is one
 abbrev pub text_in : Option (Vec ℕ) → Option (List ℕ)
 text_in found = option_map (λ v. v.items) found
 
--- The text of the value that all the octets are, if they are one. `view` takes what a reader returns to the value.
+-- The summary of the value that all the octets are, if they are one. `view` gives the value for the result of a reader.
 abbrev pub Shows : {T V : Type 0} → (List ℕ → V → Type 0) → (T → V) → (T → List ℕ → Type 0) → List ℕ
     → Option (List ℕ) → Type 0
 Shows {T} {V} Is view IsText i (Some text) = (x : T) × Is i (view x) × IsText x text
@@ -40,7 +41,7 @@ Shows {T} {V} Is view IsText i None = (v : V) → ¬ Is i v
 abbrev pub Is : {V : Type 0} → Rules → Format V → List ℕ → V → Type 0
 Is r F i v = Only (Required F) r i v
 
--- they are a key
+-- the octets are a key
 abbrev pub IsKey : {V : Type 0} → KeyFormat KeyFault V → List ℕ → V → Type 0
 IsKey f i v = spells f i v []
 
@@ -70,36 +71,36 @@ IsPublicKey = Shows (IsKey whole_public_key) key_info_of
 abbrev pub IsKerberos : List ℕ → Option (List ℕ) → Type 0
 IsKerberos = Shows (Is Der AsReq) request_of (λ x text. text ≡ request_text x)
 
-abbrev pub IsSnmp : List ℕ → Option (List ℕ) → Type 0
-IsSnmp = Shows (Is Ber SnmpMessage) snmp_of (λ m text. text ≡ snmp_text m)
+abbrev pub IsSnmp : KnownTypes → List ℕ → Option (List ℕ) → Type 0
+IsSnmp types = ShowsByType (λ i. (m : SnmpValue) × Is Ber SnmpMessage i m) types (codes "Message")
 
 abbrev pub IsLdap : List ℕ → Option (List ℕ) → Type 0
 IsLdap = Shows (Is Ber LdapMessage) ldap_of (λ m text. text ≡ ldap_text m)
 
 infixr 20 ◌⊳◌
--- the text that the first says, or where it says none what the second does
+-- the text of the first, or of the second if the first has none
 abbrev pub ◌⊳◌ : (List ℕ → Option (List ℕ) → Type 0) → (List ℕ → Option (List ℕ) → Type 0) → List ℕ
     → Option (List ℕ) → Type 0
 ◌⊳◌ P Q i found = ((text : List ℕ) × P i (Some text) × (found ≡ Some text)) ⊎ (P i None × Q i found)
 
--- the text of the first of all that the octets are, from each of them on
-abbrev pub FromSnmp : List ℕ → Option (List ℕ) → Type 0
-FromSnmp = IsSnmp ⊳ IsLdap
+-- the summary of the first of these formats that the octets have, from each format on
+abbrev pub FromSnmp : KnownTypes → List ℕ → Option (List ℕ) → Type 0
+FromSnmp types = IsSnmp types ⊳ IsLdap
 
-abbrev pub FromKerberos : List ℕ → Option (List ℕ) → Type 0
-FromKerberos = IsKerberos ⊳ FromSnmp
+abbrev pub FromKerberos : KnownTypes → List ℕ → Option (List ℕ) → Type 0
+FromKerberos types = IsKerberos ⊳ FromSnmp types
 
-abbrev pub FromPublicKey : List ℕ → Option (List ℕ) → Type 0
-FromPublicKey = IsPublicKey ⊳ FromKerberos
+abbrev pub FromPublicKey : KnownTypes → List ℕ → Option (List ℕ) → Type 0
+FromPublicKey types = IsPublicKey ⊳ FromKerberos types
 
-abbrev pub FromCurveKey : List ℕ → Option (List ℕ) → Type 0
-FromCurveKey = IsCurveKey ⊳ FromPublicKey
+abbrev pub FromCurveKey : KnownTypes → List ℕ → Option (List ℕ) → Type 0
+FromCurveKey types = IsCurveKey ⊳ FromPublicKey types
 
-abbrev pub FromRsaKey : List ℕ → Option (List ℕ) → Type 0
-FromRsaKey = IsRsaKey ⊳ FromCurveKey
+abbrev pub FromRsaKey : KnownTypes → List ℕ → Option (List ℕ) → Type 0
+FromRsaKey types = IsRsaKey ⊳ FromCurveKey types
 
-abbrev pub FromEncryptedKey : List ℕ → Option (List ℕ) → Type 0
-FromEncryptedKey = IsEncryptedKey ⊳ FromRsaKey
+abbrev pub FromEncryptedKey : KnownTypes → List ℕ → Option (List ℕ) → Type 0
+FromEncryptedKey types = IsEncryptedKey ⊳ FromRsaKey types
 
-abbrev pub IsMessage : List ℕ → Option (List ℕ) → Type 0
-IsMessage = IsPrivateKey ⊳ FromEncryptedKey
+abbrev pub IsMessage : KnownTypes → List ℕ → Option (List ℕ) → Type 0
+IsMessage types = IsPrivateKey ⊳ FromEncryptedKey types

@@ -1,10 +1,10 @@
--- Where an element stands in a type: the path to it, made of the names of fields, and the extension that it is in.
+-- The position of an element in a type: the path of names to it, and the extension that it is in.
 use Rattle.std.specs.Prelude.{◌≡◌, ◌≢◌, ◌⊎◌, ℕ, ◌≤◌, false, Option, Some, None}
 use Rattle.std.specs.Prelude.{List, [], ◌∷◌, ◌++◌, codes, take}
 use Rattle.std.specs.List.{All}
 use Rattle.std.specs.Option.{option_map}
 use Rattle.der_base.specs.declared.rules.Rules.TheVariants.{Ber}
-use Rattle.der_fields.specs.Fields.{label_after, label_text}
+use Rattle.text_json.specs.Fields.Fields.{label_after, label_text}
 use Rattle.der_print.specs.Lines.{content_in}
 use Rattle.der_schema.specs.declared.name_path.NameStep.{NameStep}
 use Rattle.der_schema.specs.declared.matching.Name.{Name}
@@ -12,13 +12,13 @@ use Rattle.der_schema.specs.Known.{all_extras}
 use Rattle.der_schema.specs.Meaning.{Root}
 use Rattle.der_schema.specs.NamePaths.{name_step}
 use Rattle.der_schema.specs.Steps.{label_of}
-use Rattle.der_walk.specs.declared.refusal.Refusal.{Refusal}
-use Rattle.der_walk.specs.declared.walk.Walk.{Walk}
-use Rattle.der_walk.specs.Visits.{Visited, Visits}
-use Rattle.der_walk.specs.Walked.{HasOctets, HasVisited, IsRefused, index_in, visited_of}
+use Rattle.der_elements.specs.declared.refusal.Refusal.{Refusal}
+use Rattle.der_elements.specs.declared.walk.Walk.{Walk}
+use Rattle.der_elements.specs.Visits.{Visited, Visits}
+use Rattle.der_elements.specs.Walked.{HasOctets, HasVisited, IsRefused, index_in, visited_of}
 use Rattle.der_show.specs.declared.place.Place.{Place}
 
--- the steps of the path to the last of these elements of an input: one for each element around it, and its own
+-- the steps of the path to the last of these elements of an input: one for each element around it, and one for itself
 pub data IsNamePath (sc : Root) (i : List ℕ) : List Visited → List NameStep → Type 0 where
   outside : {vs : List Visited} {steps : List NameStep} → vs ≡ [] → steps ≡ [] → IsNamePath sc i vs steps
   further : {vs : List Visited} {steps : List NameStep} (before : List Visited) (v : Visited) (around : List NameStep)
@@ -26,12 +26,13 @@ pub data IsNamePath (sc : Root) (i : List ℕ) : List Visited → List NameStep 
       → label_of name ≡ label_after sc i before v
       → steps ≡ take v.depth around ++ name_step name (index_in v.depth before) v ∷ [] → IsNamePath sc i vs steps
 
--- an element says which extension it and those after it in the same content are in (RFC 5280 4.1)
+-- an element is the identifier of the extension that it and the elements after it in the same content are in (RFC 5280
+-- 4.1)
 abbrev pub IsIdentifier : Root → List ℕ → List Visited → Visited → Type 0
 IsIdentifier sc i before v =
     (label_text (label_after sc i before v) ≡ codes "extnID") × (v.constructed ≡ false)
 
--- the last of these elements is in the extension with this identifier, whose fields have so many elements around them
+-- the last of these elements is in the extension with this identifier, whose fields have this depth
 pub data IsInExtension (sc : Root) (i : List ℕ) : List Visited → ℕ → List ℕ → Type 0 where
   named : {vs : List Visited} {depth : ℕ} {identifier : List ℕ} (before : List Visited) (v : Visited)
       → vs ≡ before ++ v ∷ [] → IsIdentifier sc i before v → depth ≡ v.depth → identifier ≡ content_in i v
@@ -45,7 +46,7 @@ abbrev pub IsExtensionOf : Root → List ℕ → List Visited → Option (List �
 IsExtensionOf sc i vs (Some w) = (depth : ℕ) × IsInExtension sc i vs depth w
 IsExtensionOf sc i vs None = (depth : ℕ) (w : List ℕ) → ¬ IsInExtension sc i vs depth w
 
--- an element that a walk through an input visits after others, and where it stands in a type
+-- an element that a walk through an input visits after others, and its position in a type
 pub record StandsAt (sc : Root) (i : List ℕ) (offset : ℕ) (p : Place) : Type 0 where
   pub before : List Visited
   pub walk : Walk
@@ -56,14 +57,14 @@ pub record StandsAt (sc : Root) (i : List ℕ) (offset : ℕ) (p : Place) : Type
   pub path : IsNamePath sc i (before ++ visited_of p.element ∷ []) p.path.steps.items
   pub extension : IsExtensionOf sc i (before ++ visited_of p.element ∷ []) (option_map (λ w. w.now) p.extension)
 
--- none of the elements of an input begins at an offset, up to its end or to what is refused
+-- no element of an input begins at an offset, before its end or its first error
 pub record NoneStandsAt (i : List ℕ) (offset : ℕ) : Type 0 where
   pub elements : List Visited
   pub ended : Visits all_extras Ber 101 0 0 i elements
       ⊎ ((w : Walk) × (f : Refusal) × IsRefused all_extras Ber i elements w f)
   pub none : All (λ v. v.offset ≢ offset) elements
 
--- the place of the element that begins at an offset, if one does
+-- the position of the element that begins at an offset, if one does
 abbrev pub FindsPlace : Root → List ℕ → ℕ → Option Place → Type 0
 FindsPlace sc i offset (Some p) = StandsAt sc i offset p
 FindsPlace sc i offset None = NoneStandsAt i offset

@@ -1,14 +1,14 @@
-//! The lines of octets that are of a known type. Of what is secret no value is written, and certificates, lists of
-//! revoked certificates and requests are written in words.
+//! The lines of an input that has a known type. A secret value isn't written. Certificates, CRLs and certification
+//! requests are written as summaries.
 ghost use Rattle.std.specs.Prelude.{◌≡◌, ◌++◌, IfOk, List, OnOk, ℕ};
-ghost use Rattle.der_fields.specs.Fields.{label_text};
+ghost use Rattle.text_json.specs.Fields.Fields.{label_text};
 ghost use Rattle.der_print.specs.Lines.{IsFieldLine};
 ghost use Rattle.der_print.specs.Texts.{content_of};
 ghost use Rattle.der_schema.specs.Known.{IsOfType, all_extras};
 ghost use Rattle.der_schema.specs.Meaning.{root_of};
 ghost use Rattle.der_schema.specs.Steps.{label_of};
-ghost use Rattle.der_walk.specs.Visits.{Visited, Visits};
-ghost use Rattle.der_walk.specs.Walked.{visited_of};
+ghost use Rattle.der_elements.specs.Visits.{Visited, Visits};
+ghost use Rattle.der_elements.specs.Walked.{visited_of};
 ghost use Rattle.der_show.specs.FieldLines.{AddsAll, AddsShown, AddsWords};
 ghost use Rattle.der_show.specs.Leaves.{fields_style, leaf_line};
 
@@ -16,33 +16,33 @@ use crate::known::{Known, keeps_rules};
 use crate::manner::Manner;
 use crate::text::text_of_known;
 use der_base::rules::Rules;
-use der_fields::{SECRET, is_secret};
+use der_elements::{Element, Walk};
 use der_print::{Limit, Room, Style, write_field_line, write_outline};
 use der_schema::{Name, Namer, Schema};
-use der_walk::{Element, Walk};
 use std::alloc::{AllocError, Global};
+use text_json::fields::{SECRET, is_secret};
 
-/// Of a long value its first octets or characters are written.
+/// Only the first octets or characters of a long value are written.
 const STYLE: Style = Style {
     limit: Limit::Front,
     colours: false,
 };
 
-/// What is written in place of the value of an element that is written in words.
+/// The text in place of the value of an element that is summarized.
 const IN_WORDS: &str = " (in words below)";
 
-/// What is written of octets that are of a type.
+/// What is written about an input that has a type.
 #[derive(Drop)]
 pub(crate) struct Written {
     /// The lines of the elements.
     pub(crate) lines: Vec<u8>,
-    /// The words of those that are certificates, lists of revoked certificates and requests.
+    /// The summaries of the certificates, CRLs and certification requests among the elements.
     pub(crate) words: Vec<u8>,
-    /// Whether these break no rule of RFC 5280 beyond its ASN.1.
+    /// Whether these keep all rules of RFC 5280 beyond its ASN.1.
     pub(crate) keeps_rules: bool,
 }
 
-/// Adds what is written of the elements of octets that are of a type, by BER.
+/// Adds the lines and the summaries of the elements of an input that has this type by BER.
 pub(crate) fn with_lines(
     alloc: Global,
     front: Written,
@@ -78,13 +78,13 @@ pub(crate) fn with_lines(
                 )?;
             }
             Ok(None) => return Ok(written),
-            // Octets that are of a type are elements.
+            // An input that has a type is valid, so the walk has no error.
             Err(_) => return Ok(written),
         }
     }
 }
 
-/// The text of a name, or nothing if the element isn't in the type.
+/// The text of a name. Empty if the element isn't in the type.
 fn text_of(name: Option<Name>) -> &'static str
     ensures { result.now ≡ label_text (label_of name) }
 {
@@ -94,7 +94,7 @@ fn text_of(name: Option<Name>) -> &'static str
     }
 }
 
-/// Adds what is written of an element that is shown so.
+/// Adds what is written about an element that is shown in this manner.
 fn add_element(
     written: &mut Written,
     alloc: Global,
@@ -117,7 +117,7 @@ fn add_element(
     }
 }
 
-/// Adds the line of an element.
+/// Adds the line of an element, with its value.
 fn add_plain_line(
     text: &mut Vec<u8>,
     room: &mut Room,
@@ -151,7 +151,7 @@ fn add_leaf_line(
     }
 }
 
-/// Adds the words of what octets are.
+/// Adds the summary of a known structure in these octets.
 fn add_words(
     written: &mut Written,
     alloc: Global,

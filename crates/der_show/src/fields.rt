@@ -1,4 +1,4 @@
-//! Octets that are of a known type, by the names of their fields.
+//! Inputs of a known type, with the names of their fields.
 ghost use Rattle.std.specs.Prelude.{◌↔◌, IfOk, IsTrue};
 ghost use Rattle.der_schema.specs.Known.{IsOfType};
 ghost use Rattle.der_schema.specs.Meaning.{root_of};
@@ -12,12 +12,13 @@ use der_known::KnownTypes;
 use der_schema::Schema;
 use std::alloc::{AllocError, Global};
 
-/// The words of octets by the first of these types that they are of, by BER: the name of the type, then a line for each
-/// element, with the name of its field, and then the words of each element that is a certificate, a list of revoked
-/// certificates or a request: what is in it has no lines. Of a field that is secret no value is written. None if they
-/// are of none of these types, and an error if there is no memory. None too if it is a certificate, a list of revoked
-/// certificates or a request, since those that aren't DER break a rule, which `why_unread` says, or a private key,
-/// since that is a secret. `now` is the present, as in `words_of`.
+/// A text for octets by the first of these types that they have by BER: the name of the type, a line for each element
+/// with the name of its field, and summaries. A certificate, CRL or certification request among the elements has a
+/// summary, and no lines for the elements in it. A secret value isn't written.
+///
+/// None if the octets have none of these types. None too for a private key, since it is secret, and for a certificate,
+/// CRL or certification request, since its reader has rejected it and `why_unread` says why. AllocError if there is no
+/// memory. `now` is as in `words_of`.
 pub fn words_by_fields(
     alloc: Global,
     octets: &[u8],
@@ -38,7 +39,7 @@ pub fn words_by_fields(
     }
 }
 
-/// Whether the type with this name is only shown by its reader.
+/// Whether the type with this name is only shown by its own reader.
 fn is_read_alone(name: &str) -> bool
     ensures { IsTrue result ↔ IsReadAlone name.now }
 {
@@ -53,7 +54,7 @@ fn is_read_alone(name: &str) -> bool
     }
 }
 
-/// The words of octets that are of a type.
+/// The text for octets that have a type.
 fn words_of_type(
     alloc: Global,
     octets: &[u8],
@@ -75,7 +76,7 @@ fn words_of_type(
     words_from(written)
 }
 
-/// The words after the lines.
+/// The text from the lines and the summaries.
 fn words_from(written: Written) -> Result<Words, AllocError>
     ensures { IfOk result (AreWordsFrom written) }
 {

@@ -5,11 +5,11 @@ ghost use Rattle.der_show.specs.Messages.{IsCurveKey, IsEncryptedKey, IsPrivateK
 use crate::message::Found;
 use crate::text::text_of;
 use message_text::{EcKeyText, EncryptedKeyText, PrivateKeyText, PublicKeyText, RsaKeyText};
-use pkcs8_reader::{
+use std::alloc::Global;
+use x509_keys::{
     read_ec_private_key, read_encrypted_key, read_private_key, read_public_key,
     read_rsa_private_key,
 };
-use std::alloc::Global;
 
 /// The text of a private key.
 pub(crate) fn private_key_text(alloc: Global, octets: &[u8]) -> Found

@@ -1,28 +1,29 @@
-//! Which of the structures around keys octets are.
+//! Certificates, CRLs and certification requests.
 ghost use Rattle.std.specs.Prelude.{◌↔◌, IsTrue};
-ghost use Rattle.crl_reader.specs.Lists.{certificate_list_of};
-ghost use Rattle.der_x509.specs.Certificates.{certificate_of};
+ghost use Rattle.x509.specs.Crl.Lists.{certificate_list_of};
+ghost use Rattle.x509.specs.Certificates.{certificate_of};
 ghost use Rattle.der_show.specs.Known.{IsKnown, IsKnownList, IsKnownRequest, KeepsRules, NoRuleBroken};
 ghost use Rattle.der_show.specs.Known.{NoListRuleBroken};
 
-use crl_reader::{CertificateList, read_certificate_list};
-use der_request::{CertificationRequest, read_request};
-use der_x509::{Certificate, read_certificate};
-use x509_crl_rules::{MUST_LIST_RULES, broken_list_rules};
+use x509::crl::{CertificateList, read_certificate_list};
+use x509::{Certificate, read_certificate};
+use x509_keys::request::{CertificationRequest, read_request};
+use x509_rules::crl::{MUST_LIST_RULES, broken_list_rules};
 use x509_rules::{MUST_RULES, broken_rules};
 
-/// What octets are. Texts are slices of them.
+/// A certificate, CRL or certification request. Its texts borrow from the octets.
 #[derive(Drop)]
 pub enum Known<'a> {
     /// A certificate (RFC 5280 4.1).
     Certificate(Certificate<'a>),
-    /// A list of revoked certificates (RFC 5280 5.1).
+    /// A CRL (RFC 5280 5.1).
     CertificateList(CertificateList<'a>),
     /// A certification request (RFC 2986 4).
     CertificationRequest(CertificationRequest<'a>),
 }
 
-/// What all the octets are: the first of a certificate, a list of revoked certificates and a certification request.
+/// Reads the octets as a certificate, else as a CRL, else as a certification request. None if they are none of these.
+/// Trailing data counts as an error.
 pub fn what_is(octets: &[u8]) -> Option<Known<'_>>
     ensures { IsKnown octets.now result }
 {
@@ -32,7 +33,7 @@ pub fn what_is(octets: &[u8]) -> Option<Known<'_>>
     }
 }
 
-/// The list or the request that all the octets are.
+/// The CRL or the certification request that the octets are.
 fn known_list(octets: &[u8]) -> Option<Known<'_>>
     ensures { IsKnownList octets.now result }
 {
@@ -42,7 +43,7 @@ fn known_list(octets: &[u8]) -> Option<Known<'_>>
     }
 }
 
-/// The request that all the octets are.
+/// The certification request that the octets are.
 fn known_request(octets: &[u8]) -> Option<Known<'_>>
     ensures { IsKnownRequest octets.now result }
 {
@@ -52,9 +53,8 @@ fn known_request(octets: &[u8]) -> Option<Known<'_>>
     }
 }
 
-/// Whether a certificate or a list of revoked certificates breaks none of the rules that RFC 5280 says by MUST or MUST
-/// NOT beyond its ASN.1 (`MUST_RULES` of x509_rules and `MUST_LIST_RULES` of x509_crl_rules). Of a request no rule is
-/// asked.
+/// Whether a certificate or CRL keeps every MUST rule of RFC 5280 beyond its ASN.1 (`MUST_RULES` of x509_rules and
+/// `MUST_LIST_RULES` of x509_rules::crl). No rules are checked for a certification request, so this is true.
 pub fn keeps_rules(known: &Known<'_>) -> bool
     ensures { IsTrue result ↔ KeepsRules known.now }
 {

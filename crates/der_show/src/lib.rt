@@ -1,7 +1,8 @@
-//! What octets are, in words: a certificate, a list of revoked certificates, a certification request, a key, or a
-//! message of Kerberos, SNMP or LDAP. The first of these that all the octets are is written, a line for each field.
-//! What is of another known type is written by its elements, each with the name of its field, and the certificates,
-//! lists and requests among them in words.
+//! Summaries of octets: of a certificate, a CRL, a certification request, a key, or a message of Kerberos, SNMP or
+//! LDAP. The first of these formats that all the octets have is shown, with a line for each field.
+//!
+//! Octets of another known type are shown with a line for each element, which has the name of its field. Certificates,
+//! CRLs and certification requests among the elements have summaries.
 //!
 //! ```
 //! match words_of(alloc, octets, Some(now))? {
@@ -14,13 +15,14 @@
 //! ```
 #![tactic(auto)]
 
+mod by_type;
 mod extension;
 mod field_lines;
 mod fields;
-mod kerberos;
+mod kerberos_request;
 mod key;
 mod known;
-mod ldap;
+mod ldap_message;
 mod manner;
 mod message;
 mod part;
@@ -30,7 +32,7 @@ mod refused;
 mod refused_text;
 mod rules;
 mod shown;
-mod snmp;
+mod snmp_message;
 mod text;
 mod unread;
 mod why;

@@ -1,28 +1,28 @@
-//! How an element is shown among the lines of octets.
+//! The manner in which an element is shown among the lines of an input.
 ghost use Rattle.std.specs.Prelude.{◌≡◌};
 ghost use Rattle.der_show.specs.FieldLines.{IsManner, leaf_past};
 
 use crate::known::{Known, what_is};
 use crate::part::octets_of;
-use der_fields::is_inside;
-use der_walk::Element;
+use der_elements::Element;
+use text_json::fields::is_inside;
 
-/// How an element is shown. Nothing in a leaf has a line.
+/// The manner in which an element is shown. The elements inside a leaf have no lines.
 #[derive(Drop)]
 pub(crate) enum Manner<'a> {
-    /// Not at all, since it is in a leaf.
+    /// The element is inside a leaf and isn't shown.
     InLeaf,
-    /// By a line without its value: a leaf.
+    /// The element is a leaf. Its line has no value, since it is secret.
     Secret,
-    /// By a line, and in words after all lines, where its octets are this: a leaf.
+    /// The element is a leaf. Its octets are this structure, whose summary follows all lines.
     InWords(&'a [u8], Known<'a>),
-    /// By a line with its value.
+    /// The line of the element has its value.
     Plain,
 }
 
 impl<'a> Manner<'a> {
-    /// How an element of octets is shown that is secret or not, where a leaf with so many elements around it goes on,
-    /// or none does.
+    /// The manner for an element, which may be secret. `leaf` is the depth of the leaf that the walk is in, if it is in
+    /// one.
     pub(crate) fn of(
         leaf: Option<usize>,
         octets: &'a [u8],
@@ -44,7 +44,7 @@ impl<'a> Manner<'a> {
         }
     }
 
-    /// Which leaf goes on after an element with so many around it that is shown so.
+    /// The depth of the leaf that the walk is in after an element at this depth that is shown in this manner.
     pub(crate) fn leaf_past(&self, leaf: Option<usize>, depth: usize) -> Option<usize>
         ensures { result ≡ leaf_past self.now leaf depth }
     {

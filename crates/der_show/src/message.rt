@@ -4,14 +4,15 @@ ghost use Rattle.der_base.specs.declared.error.Err.TheVariants.{OutOfMemory};
 ghost use Rattle.der_show.specs.Messages.{FromCurveKey, FromEncryptedKey, FromKerberos, FromPublicKey, FromRsaKey};
 ghost use Rattle.der_show.specs.Messages.{FromSnmp, IsMessage, text_in};
 
-use crate::kerberos::kerberos_text;
+use crate::kerberos_request::kerberos_text;
 use crate::key::{
     curve_key_text, encrypted_key_text, private_key_text, public_key_text, rsa_key_text,
 };
-use crate::ldap::ldap_text;
-use crate::snmp::snmp_text;
+use crate::ldap_message::ldap_text;
+use crate::snmp_message::snmp_text;
 use der_base::error::Err as Refused;
 use der_cursor::FieldRefusal;
+use der_known::KnownTypes;
 use std::alloc::{AllocError, Global};
 
 /// A text, or none of octets that are another thing. An error if there is no memory.
@@ -20,66 +21,70 @@ pub(crate) type Found = Result<Option<Vec<u8>>, AllocError>;
 /// The text of the first of these that all the octets are: a private key (RFC 5958 2), an encrypted one (3), one of
 /// RSA (RFC 8017 A.1.2) or of a curve (RFC 5915 3), a public key (RFC 5280 4.1.2.7), the request of a ticket
 /// (RFC 4120 5.4.1), a message of SNMP (RFC 1157, RFC 1901) or of LDAP (RFC 4511).
-pub fn text_of_message(alloc: Global, octets: &[u8]) -> Result<Option<Vec<u8>>, AllocError>
-    ensures { IfOk result (λ found. IsMessage octets.now (text_in found)) }
+pub fn text_of_message(
+    alloc: Global,
+    octets: &[u8],
+    types: &KnownTypes,
+) -> Result<Option<Vec<u8>>, AllocError>
+    ensures { IfOk result (λ found. IsMessage types.now octets.now (text_in found)) }
 {
     match private_key_text(alloc, octets) {
         Ok(Some(text)) => Ok(Some(text)),
-        Ok(None) => from_encrypted_key(alloc, octets),
+        Ok(None) => from_encrypted_key(alloc, octets, types),
         Err(e) => Err(e),
     }
 }
 
-fn from_encrypted_key(alloc: Global, octets: &[u8]) -> Found
-    ensures { IfOk result (λ found. FromEncryptedKey octets.now (text_in found)) }
+fn from_encrypted_key(alloc: Global, octets: &[u8], types: &KnownTypes) -> Found
+    ensures { IfOk result (λ found. FromEncryptedKey types.now octets.now (text_in found)) }
 {
     match encrypted_key_text(alloc, octets) {
-        Ok(None) => from_rsa_key(alloc, octets),
+        Ok(None) => from_rsa_key(alloc, octets, types),
         found => found,
     }
 }
 
-fn from_rsa_key(alloc: Global, octets: &[u8]) -> Found
-    ensures { IfOk result (λ found. FromRsaKey octets.now (text_in found)) }
+fn from_rsa_key(alloc: Global, octets: &[u8], types: &KnownTypes) -> Found
+    ensures { IfOk result (λ found. FromRsaKey types.now octets.now (text_in found)) }
 {
     match rsa_key_text(alloc, octets) {
         Ok(Some(text)) => Ok(Some(text)),
-        Ok(None) => from_curve_key(alloc, octets),
+        Ok(None) => from_curve_key(alloc, octets, types),
         Err(e) => Err(e),
     }
 }
 
-fn from_curve_key(alloc: Global, octets: &[u8]) -> Found
-    ensures { IfOk result (λ found. FromCurveKey octets.now (text_in found)) }
+fn from_curve_key(alloc: Global, octets: &[u8], types: &KnownTypes) -> Found
+    ensures { IfOk result (λ found. FromCurveKey types.now octets.now (text_in found)) }
 {
     match curve_key_text(alloc, octets) {
-        Ok(None) => from_public_key(alloc, octets),
+        Ok(None) => from_public_key(alloc, octets, types),
         found => found,
     }
 }
 
-fn from_public_key(alloc: Global, octets: &[u8]) -> Found
-    ensures { IfOk result (λ found. FromPublicKey octets.now (text_in found)) }
+fn from_public_key(alloc: Global, octets: &[u8], types: &KnownTypes) -> Found
+    ensures { IfOk result (λ found. FromPublicKey types.now octets.now (text_in found)) }
 {
     match public_key_text(alloc, octets) {
-        Ok(None) => from_kerberos(alloc, octets),
+        Ok(None) => from_kerberos(alloc, octets, types),
         found => found,
     }
 }
 
-fn from_kerberos(alloc: Global, octets: &[u8]) -> Found
-    ensures { IfOk result (λ found. FromKerberos octets.now (text_in found)) }
+fn from_kerberos(alloc: Global, octets: &[u8], types: &KnownTypes) -> Found
+    ensures { IfOk result (λ found. FromKerberos types.now octets.now (text_in found)) }
 {
     match kerberos_text(alloc, octets) {
-        Ok(None) => from_snmp(alloc, octets),
+        Ok(None) => from_snmp(alloc, octets, types),
         found => found,
     }
 }
 
-fn from_snmp(alloc: Global, octets: &[u8]) -> Found
-    ensures { IfOk result (λ found. FromSnmp octets.now (text_in found)) }
+fn from_snmp(alloc: Global, octets: &[u8], types: &KnownTypes) -> Found
+    ensures { IfOk result (λ found. FromSnmp types.now octets.now (text_in found)) }
 {
-    match snmp_text(alloc, octets) {
+    match snmp_text(alloc, octets, types) {
         Ok(None) => ldap_text(alloc, octets),
         found => found,
     }

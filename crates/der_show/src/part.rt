@@ -1,12 +1,12 @@
 //! The octets of an element.
 ghost use Rattle.std.specs.Prelude.{◌≡◌, ◌+◌, drop, take};
-ghost use Rattle.der_walk.specs.Walked.{visited_of};
+ghost use Rattle.der_elements.specs.Walked.{visited_of};
 ghost use Rattle.der_show.specs.InWords.{octets_in};
 
-use der_walk::Element;
+use der_elements::Element;
 
-/// The octets of an element of octets: as many as its header says. Those of the header alone if it says no number
-/// (X.690 8.1.3.6).
+/// The octets of an element in an input: as many as its header says. With an indefinite length, those of the header
+/// alone (X.690 8.1.3.6).
 pub(crate) fn octets_of<'a>(octets: &'a [u8], element: &Element<'_>) -> &'a [u8]
     ensures { result.now ≡ octets_in octets.now (visited_of element.now) }
 {
@@ -25,7 +25,7 @@ fn octets_from(octets: &[u8], offset: usize) -> &[u8]
     }
 }
 
-/// The first octets, as many as those of a header and a content, or all of them if there are fewer.
+/// The octets of a header and of a content at the start, or all octets if there are fewer.
 fn first_octets(octets: &[u8], header: usize, content: usize) -> &[u8]
     ensures { result.now ≡ take (header + content) octets.now }
 {

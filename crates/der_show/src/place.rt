@@ -1,26 +1,26 @@
-//! Where an element stands in a type: the path to it, and the extension that it is in.
+//! The position of an element in a type: the path to it, and the extension that it is in.
 ghost use Rattle.der_schema.specs.Meaning.{root_of};
 ghost use Rattle.der_show.specs.Places.{FindsPlace};
 
 use crate::extension::{Around, is_identifier};
 use der_base::rules::Rules;
+use der_elements::{Element, Walk};
 use der_schema::{Name, NamePath, Namer, Schema};
-use der_walk::{Element, Walk};
 
-/// Where an element stands in a type.
+/// The position of an element in a type.
 #[derive(Drop)]
 pub struct Place<'a> {
     pub element: Element<'a>,
-    /// Its name. None if it isn't in the type.
+    /// The name of the element. None if it isn't in the type.
     pub name: Option<Name>,
-    /// The path to it.
+    /// The path to the element.
     pub path: NamePath,
-    /// The content octets of the identifier of the extension that it is in.
+    /// The content octets of the identifier of the extension that the element is in.
     pub extension: Option<&'a [u8]>,
 }
 
-/// The place in a type of the element that begins at an offset of octets, by BER. None if no element begins there up
-/// to the end of the octets, or to where they aren't elements.
+/// The position in a type of the element that begins at an offset, by BER. None if no element begins there, or if there
+/// is an error before it.
 pub(crate) fn place_of<'a>(octets: &'a [u8], offset: usize, schema: Schema<'_>) -> Option<Place<'a>>
     ensures { FindsPlace (root_of schema.entry) octets.now offset result }
 {

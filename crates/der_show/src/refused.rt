@@ -1,22 +1,22 @@
-//! The errors of the readers of certificates, lists of revoked certificates and requests.
+//! The errors of the readers of certificates, CRLs and certification requests.
 ghost use Rattle.std.specs.Prelude.{◌≡◌, ◌↔◌, IsTrue};
 ghost use Rattle.der_cursor.specs.Cursors.{is_at_end};
 ghost use Rattle.der_show.specs.Refused.{IsOfCertificate, IsVersion, further, offset_of, refusal_of, type_name};
 
 use certificate_text::is_at_end;
-use crl_reader::ListRefusal;
 use der_base::error::BerError;
 use der_cursor::Refusal;
-use der_request::RequestRefusal;
-use der_x509::{CertificateRefusal, Field};
 use std::fmt;
+use x509::crl::ListRefusal;
+use x509::{CertificateRefusal, Field};
+use x509_keys::request::RequestRefusal;
 
-/// Why octets are none of these: the error of one of the readers.
-#[derive(Debug, Drop)]
+/// The error of one of these readers.
+#[derive(Drop)]
 pub enum Refused {
     /// The error as a certificate.
     Certificate(CertificateRefusal),
-    /// The error as a list of revoked certificates.
+    /// The error as a CRL.
     CertificateList(ListRefusal),
     /// The error as a certification request.
     CertificationRequest(RequestRefusal),
@@ -34,7 +34,7 @@ impl Refused {
         }
     }
 
-    /// The number of octets before the element that is refused.
+    /// The offset of the element with the error.
     pub fn offset(&self) -> usize
         ensures { result ≡ offset_of self.now }
     {
@@ -56,7 +56,7 @@ impl Refused {
         }
     }
 
-    /// What octets are not, in words.
+    /// What the reader reads, such as "certificate".
     pub(crate) fn kind(&self) -> &'static str {
         match self {
             Refused::Certificate(_) => "certificate",
@@ -65,14 +65,14 @@ impl Refused {
         }
     }
 
-    /// Whether the refused element is where its list ends, so that there is none.
+    /// Whether the error is at the end of a list, where there is no element.
     pub(crate) fn is_at_end(&self) -> bool
         ensures { result ≡ is_at_end (refusal_of self.now).list_end (refusal_of self.now).offset }
     {
         is_at_end(self.refusal())
     }
 
-    /// Whether it is the error as a certificate.
+    /// Whether this is the error as a certificate.
     pub(crate) fn is_of_certificate(&self) -> bool
         ensures { IsTrue result ↔ IsOfCertificate self.now }
     {
@@ -83,7 +83,7 @@ impl Refused {
         }
     }
 
-    /// Whether the version of a certificate is refused.
+    /// Whether the error is in the version of a certificate.
     pub(crate) fn is_version(&self) -> bool
         ensures { IsTrue result ↔ IsVersion self.now }
     {
@@ -93,7 +93,7 @@ impl Refused {
         }
     }
 
-    /// The one with the greater offset, and of two with the same offset this one.
+    /// The error with the greater offset, or this one if both have the same offset.
     pub(crate) fn or_further(self, other: Refused) -> Refused
         ensures { result ≡ further self other }
     {
@@ -104,7 +104,7 @@ impl Refused {
         }
     }
 
-    /// Writes the field that is refused.
+    /// Writes the field with the error.
     pub(crate) fn write_field<W: fmt::Write>(&self, f: &mut fmt::Formatter<W>) -> fmt::Result {
         match self {
             Refused::Certificate(e) => write!(f, "{}", e.field),

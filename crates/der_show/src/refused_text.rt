@@ -1,19 +1,18 @@
-//! What was read of a certificate that is refused, in words.
+//! A summary of what was read of a certificate before an error.
 ghost use Rattle.std.specs.Prelude.{◌↔◌, IfOk, IsTrue};
-ghost use Rattle.partial_certificate.specs.Partials.{partial_of};
+ghost use Rattle.x509.specs.Partial.Partials.{partial_of};
 ghost use Rattle.der_show.specs.Messages.{text_in};
 ghost use Rattle.der_show.specs.Refused.{IsOfCertificate};
 ghost use Rattle.der_show.specs.RefusedTexts.{IsLater, IsPartialFound, IsRefusedText, ShowsCertificate};
 
 use crate::refused::Refused;
 use crate::text::text_of_partial;
-use der_x509::Version;
-use partial_certificate::{PartialCertificate, read_partial_certificate};
 use std::alloc::{AllocError, Global};
+use x509::Version;
+use x509::partial::{PartialCertificate, read_partial_certificate};
 
-/// The fields that were read of a certificate before the error by which it is refused, in words. None if the error is
-/// that of another type, or the fields may be those of another type. `now` is the present, in seconds since 1970-01-01
-/// 00:00:00 UTC: with none, nothing is said of how long the certificate is valid.
+/// A summary of the fields that were read of a certificate before the error that rejects it. None if the error is that
+/// of another type, or if the fields may be those of another type. `now` is as in `words_of`.
 pub fn text_of_refused(
     alloc: Global,
     octets: &[u8],
@@ -29,7 +28,7 @@ pub fn text_of_refused(
     text_of_certificate(alloc, &partial, now)
 }
 
-/// The same of what was read.
+/// The summary of the fields that were read.
 fn text_of_certificate(
     alloc: Global,
     partial: &PartialCertificate<'_>,
@@ -46,15 +45,15 @@ fn text_of_certificate(
     }
 }
 
-/// Whether the fields are those of a certificate. A list of revoked certificates has an issuer at the same place, and
-/// no version under a tag and no validity.
+/// Whether the fields are those of a certificate. A CRL has an issuer at the same position, but no version under a tag
+/// and no validity.
 fn shows_certificate(partial: &PartialCertificate<'_>) -> bool
     ensures { IsTrue result ↔ ShowsCertificate (partial_of partial.now) }
 {
     partial.issuer.is_some() && (is_later(partial.version) || partial.validity.is_some())
 }
 
-/// Whether it is a version that is written.
+/// Whether this is a version that is encoded, 2 or 3.
 fn is_later(version: Option<Version>) -> bool
     ensures { IsTrue result ↔ IsLater version }
 {

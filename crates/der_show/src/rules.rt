@@ -1,22 +1,22 @@
-//! The rules of RFC 5280 that a certificate or a list of revoked certificates breaks.
-ghost use Rattle.crl_reader.specs.Lists.{certificate_list_of};
+//! The rules of RFC 5280 that a certificate or CRL breaks.
+ghost use Rattle.x509.specs.Crl.Lists.{certificate_list_of};
 ghost use Rattle.der_print.specs.Writes.{WritesOne};
-ghost use Rattle.der_x509.specs.Certificates.{certificate_of};
-ghost use Rattle.x509_crl_rules.specs.ListRules.{BreaksList};
+ghost use Rattle.x509.specs.Certificates.{certificate_of};
+ghost use Rattle.x509_rules.specs.Crl.ListRules.{BreaksList};
 ghost use Rattle.x509_rules.specs.Rules.{Breaks};
 ghost use Rattle.der_show.specs.Rules.{AreBroken, AreListRules, AreRules};
 
-use crl_reader::CertificateList;
-use der_x509::Certificate;
-use name_text::lines::write_displayed;
+use extension_text::names::lines::write_displayed;
 use std::fmt;
-use x509_crl_rules::{ListRule, MUST_LIST_RULES, SHOULD_LIST_RULES, broken_list_rules};
+use x509::Certificate;
+use x509::crl::CertificateList;
+use x509_rules::crl::{ListRule, MUST_LIST_RULES, SHOULD_LIST_RULES, broken_list_rules};
 use x509_rules::{MUST_RULES, Rule, SHOULD_RULES, broken_rules};
 
-/// What stands before a rule that RFC 5280 says by MUST.
+/// The text before a broken MUST rule.
 const RULE: &str = "  Broken rule: ";
 
-/// What stands before one that it says by SHOULD.
+/// The text before a broken SHOULD rule.
 const RECOMMENDATION: &str = "  Broken recommendation: ";
 
 /// Writes a line for each rule that a certificate breaks.
@@ -30,7 +30,7 @@ pub(crate) fn write_rules<W: fmt::Write>(
     write_broken(f, RECOMMENDATION, certificate, SHOULD_RULES)
 }
 
-/// Writes those of some rules that a certificate breaks.
+/// Writes a line for each of these rules that a certificate breaks.
 fn write_broken<W: fmt::Write>(
     f: &mut fmt::Formatter<W>,
     label: &str,
@@ -46,7 +46,7 @@ fn write_broken<W: fmt::Write>(
     Ok(())
 }
 
-/// Writes a line for each rule that a list of revoked certificates breaks.
+/// Writes a line for each rule that a CRL breaks.
 pub(crate) fn write_list_rules<W: fmt::Write>(
     f: &mut fmt::Formatter<W>,
     list: &CertificateList<'_>,
@@ -57,7 +57,7 @@ pub(crate) fn write_list_rules<W: fmt::Write>(
     write_broken_of_list(f, RECOMMENDATION, list, SHOULD_LIST_RULES)
 }
 
-/// Writes those of some rules that a list breaks.
+/// Writes a line for each of these rules that a CRL breaks.
 fn write_broken_of_list<W: fmt::Write>(
     f: &mut fmt::Formatter<W>,
     label: &str,

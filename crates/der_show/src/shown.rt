@@ -1,4 +1,4 @@
-//! The text of certificates, lists of revoked certificates and requests.
+//! The summaries of certificates, CRLs and certification requests.
 ghost use Rattle.der_print.specs.Writes.{WritesOne};
 ghost use Rattle.der_show.specs.Shown.{IsShown};
 
@@ -7,13 +7,14 @@ use crate::rules::{write_list_rules, write_rules};
 use certificate_text::{write_certificate, write_list, write_request};
 use std::fmt;
 
-/// What octets are, in words.
+/// A certificate, CRL or certification request that is to be summarized.
 #[derive(Clone, Copy)]
 pub struct Shown<'r, 'a> {
-    /// The octets that it was read from.
+    /// The octets from which it was read.
     pub octets: &'a [u8],
     pub known: &'r Known<'a>,
-    /// The present, in seconds since 1970-01-01 00:00:00 UTC. With none, nothing is said of how long it is valid.
+    /// The current time, in seconds since 1970-01-01 00:00:00 UTC. Without it, the summary doesn't tell for how long
+    /// the certificate is valid.
     pub now: Option<u64>,
 }
 
@@ -23,8 +24,8 @@ impl fmt::Display for Shown<'_, '_> {
     }
 }
 
-/// Writes what octets are, in words, and then which rules of RFC 5280 it breaks. `octets` is what it was read from, and
-/// `now` the present, in seconds since 1970-01-01 00:00:00 UTC: with none, nothing is said of how long it is valid.
+/// Writes the summary of a certificate, CRL or certification request, and then the rules of RFC 5280 that it breaks. It
+/// was read from `octets`. `now` is as in `words_of`.
 pub fn write_known<W: fmt::Write>(
     f: &mut fmt::Formatter<W>,
     octets: &[u8],

@@ -1,17 +1,17 @@
 //! Texts in memory.
 ghost use Rattle.std.specs.Prelude.{◌≡◌, [], IfOk, IfSome};
 ghost use Rattle.certificate_text.specs.Partials.{IsPartialText};
-ghost use Rattle.partial_certificate.specs.Partials.{partial_of};
+ghost use Rattle.x509.specs.Partial.Partials.{partial_of};
 ghost use Rattle.der_show.specs.Shown.{IsShown};
 
 use crate::known::Known;
 use crate::shown::write_known;
 use certificate_text::write_partial;
-use partial_certificate::PartialCertificate;
 use std::alloc::{AllocError, Global};
 use std::fmt;
+use x509::partial::PartialCertificate;
 
-/// The octets of a text, which grow at their end.
+/// A buffer for a text.
 #[derive(Drop)]
 pub(crate) struct Text {
     octets: Vec<u8>,
@@ -54,7 +54,7 @@ pub(crate) fn text_of<D: fmt::Display + Drop>(
     }
 }
 
-/// The text of what was read of a certificate.
+/// The summary of what was read of a certificate before an error.
 pub(crate) fn text_of_partial(
     alloc: Global,
     partial: &PartialCertificate<'_>,
@@ -69,7 +69,7 @@ pub(crate) fn text_of_partial(
     }
 }
 
-/// The text of what octets are.
+/// The summary of a certificate, CRL or certification request.
 pub(crate) fn text_of_known(
     alloc: Global,
     octets: &[u8],

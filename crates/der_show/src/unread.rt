@@ -1,4 +1,4 @@
-//! Why octets are no certificate, list of revoked certificates or certification request.
+//! Why octets aren't a certificate, CRL or certification request.
 ghost use Rattle.der_show.specs.Unread.{IsPlaceOf, IsWhyNoCertificate, IsWhyNoList, IsWhyNoRequest, IsWhyRefused};
 ghost use Rattle.der_show.specs.Unread.{IsWhyUnread};
 
@@ -7,28 +7,28 @@ use crate::place_text::{tells_more, write_path};
 use crate::refused::Refused;
 use crate::why::why_at;
 use certificate_text::{ErrorText, Why};
-use crl_reader::read_certificate_list;
 use der_known::KnownTypes;
-use der_request::read_request;
-use der_x509::read_certificate;
 use std::error::Error;
 use std::fmt;
+use x509::crl::read_certificate_list;
+use x509::read_certificate;
+use x509_keys::request::read_request;
 
-/// Why octets are none of these, and where.
+/// Why octets aren't a certificate, CRL or certification request, and where the error is.
 #[derive(Drop)]
 pub struct Unread<'a> {
-    /// The error of one of the readers.
+    /// The error of the reader that got furthest.
     pub refused: Refused,
-    /// Where the refused element stands in the type that the reader reads. None if no element begins at the offset of
-    /// the error, or it is where a list ends.
+    /// The position of the element with the error, in the type that the reader reads. None if no element begins at the
+    /// offset of the error, or if a list ends there.
     pub place: Option<Place<'a>>,
-    /// What can be said more exactly than by the error.
+    /// A more exact reason than that of the error.
     pub why: Why,
 }
 
-/// Why octets are no certificate, no list of revoked certificates and no certification request. Of the errors of the
-/// three readers it is the one with the greatest offset, since that reader understood the most octets, and of errors
-/// with the same offset the first in this order. None if they are one of these.
+/// Why octets aren't a certificate, CRL or certification request. The error is that of the reader that got furthest: it
+/// has the greatest offset. If two errors have the same offset, the first in this order counts. None if the octets are
+/// one of these.
 pub fn why_unread(octets: &[u8]) -> Option<Unread<'_>>
     ensures { IsWhyUnread octets.now result }
 {
@@ -42,7 +42,7 @@ pub fn why_unread(octets: &[u8]) -> Option<Unread<'_>>
     })
 }
 
-/// The error that is the furthest on.
+/// The error with the greatest offset.
 fn why_refused(octets: &[u8]) -> Option<Refused>
     ensures { IsWhyRefused octets.now result }
 {
@@ -52,7 +52,7 @@ fn why_refused(octets: &[u8]) -> Option<Refused>
     Some(certificate.or_further(list).or_further(request))
 }
 
-/// Why octets are no certificate.
+/// Why octets aren't a certificate.
 fn why_no_certificate(octets: &[u8]) -> Option<Refused>
     ensures { IsWhyNoCertificate octets.now result }
 {
@@ -62,7 +62,7 @@ fn why_no_certificate(octets: &[u8]) -> Option<Refused>
     }
 }
 
-/// Why octets are no list.
+/// Why octets aren't a CRL.
 fn why_no_list(octets: &[u8]) -> Option<Refused>
     ensures { IsWhyNoList octets.now result }
 {
@@ -72,7 +72,7 @@ fn why_no_list(octets: &[u8]) -> Option<Refused>
     }
 }
 
-/// Why octets are no request.
+/// Why octets aren't a certification request.
 fn why_no_request(octets: &[u8]) -> Option<Refused>
     ensures { IsWhyNoRequest octets.now result }
 {
@@ -82,7 +82,7 @@ fn why_no_request(octets: &[u8]) -> Option<Refused>
     }
 }
 
-/// Where the refused element stands in the type that the reader reads.
+/// The position of the element with the error, in the type that the reader reads.
 fn place_in<'a>(octets: &'a [u8], refused: &Refused) -> Option<Place<'a>>
     ensures { IsPlaceOf octets.now refused.now result }
 {
@@ -96,9 +96,9 @@ fn place_in<'a>(octets: &'a [u8], refused: &Refused) -> Option<Place<'a>>
     }
 }
 
-/// What the octets are no value of, the path to the element that is refused, and why:
-/// "not a certificate: tbsCertificate.extensions[2].critical of basicConstraints (2.5.29.19) at 276: a default value is
-/// written (X.690 11.5)".
+/// Writes what the octets aren't, the path to the element with the error, and the reason: "not a certificate:
+/// tbsCertificate.extensions[2].critical of basicConstraints (2.5.29.19) at 276: a default value is written (X.690
+/// 11.5)".
 impl fmt::Display for Unread<'_> {
     fn fmt<W: fmt::Write>(&self, f: &mut fmt::Formatter<W>) -> fmt::Result {
         let kind = self.refused.kind();

@@ -1,4 +1,4 @@
-//! What can be said of the error of a reader more exactly than by its reason.
+//! More exact reasons than those of the readers' errors.
 ghost use Rattle.std.specs.Option.{option_copied};
 ghost use Rattle.std.specs.Prelude.{◌↔◌, IsTrue};
 ghost use Rattle.der_show.specs.Why.{IsDefault, IsWhy, IsWhyWrong};
@@ -6,10 +6,10 @@ ghost use Rattle.der_show.specs.Why.{IsDefault, IsWhy, IsWhyWrong};
 use crate::place::Place;
 use crate::refused::Refused;
 use certificate_text::{Why, why_of};
+use der_elements::Element;
 use der_print::octets_or_none;
-use der_walk::Element;
 
-/// What can be said of the error of a reader, which refuses the element at this place.
+/// The reason for the error of a reader at the element with this position.
 pub(crate) fn why_at(refused: &Refused, place: Option<&Place<'_>>) -> Why
     ensures { IsWhy refused.now (option_copied place.entry) result }
 {
@@ -23,7 +23,7 @@ pub(crate) fn why_at(refused: &Refused, place: Option<&Place<'_>>) -> Why
     }
 }
 
-/// What can be said of the element that is refused, if its value is wrong.
+/// The reason for the error at an element with a wrong value.
 fn why_wrong(refused: &Refused, element: &Element<'_>) -> Why
     ensures { IsWhyWrong refused.now element.now result }
 {
@@ -34,7 +34,7 @@ fn why_wrong(refused: &Refused, element: &Element<'_>) -> Why
     }
 }
 
-/// Whether an element with a wrong value is the one by default: FALSE, or the version 0 of a certificate.
+/// Whether an element with a wrong value is a written default: FALSE, or the version 0 of a certificate.
 fn is_default(refused: &Refused, element: &Element<'_>) -> bool
     ensures { IsTrue result ↔ IsDefault refused.now element.now }
 {

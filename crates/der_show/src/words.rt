@@ -1,4 +1,4 @@
-//! What octets are, in words.
+//! Summaries of octets in any known format.
 ghost use Rattle.std.specs.Prelude.{◌≡◌, IfOk};
 ghost use Rattle.der_show.specs.Described.{AreOtherWords, AreWordsOf, IsDescribed};
 
@@ -9,23 +9,25 @@ use crate::text::text_of_known;
 use der_known::KnownTypes;
 use std::alloc::{AllocError, Global};
 
-/// What octets are, in words.
+/// The summary of octets.
 #[derive(Drop)]
 pub struct Words {
     /// A line for each field, with its name and its value.
     pub text: Vec<u8>,
-    /// How many octets of the text are before its words: the name of a type, and lines of elements. They are words from
-    /// the start unless they are by the fields of a type (`words_by_fields`).
+    /// The number of octets before the summary proper: the name of a type and the lines of elements
+    /// (`words_by_fields`). Else 0.
     pub words_at: usize,
-    /// False for a certificate or a list of revoked certificates that breaks a rule of RFC 5280 beyond its ASN.1, and
-    /// for a message with such a one among its words. True for anything else.
+    /// False for a certificate or CRL that breaks a rule of RFC 5280 beyond its ASN.1, and for a message that contains
+    /// such a one. Else true.
     pub keeps_rules: bool,
 }
 
-/// The words of the first of these that all the octets are: a certificate, a list of revoked certificates, a
-/// certification request, what `text_of_message` knows, or of a type that der_known knows (`words_by_fields`). None if
-/// they are none of these, and an error if there is no memory. `now` is the present, in seconds since 1970-01-01
-/// 00:00:00 UTC: with none, nothing is said of how long a certificate is valid.
+/// The summary of the first of these formats that all the octets have: a certificate, a CRL, a certification request, a
+/// key or message (`text_of_message`), or another known type (`words_by_fields`). None if they have none of these
+/// formats. AllocError if there is no memory.
+///
+/// `now` is the current time, in seconds since 1970-01-01 00:00:00 UTC. Without it, the summary doesn't tell for how
+/// long a certificate is valid.
 pub fn words_of(alloc: Global, octets: &[u8], now: Option<u64>) -> Result<Option<Words>, AllocError>
     ensures { IfOk result (λ words. IsDescribed now octets.now words) }
 {
@@ -38,7 +40,7 @@ pub fn words_of(alloc: Global, octets: &[u8], now: Option<u64>) -> Result<Option
     }
 }
 
-/// The words of what was read from the octets.
+/// The summary of a certificate, CRL or certification request that was read from these octets.
 fn words_of_known(
     alloc: Global,
     octets: &[u8],
@@ -52,7 +54,7 @@ fn words_of_known(
     Ok(Some(words_alone(text, keeps_rules)))
 }
 
-/// The words of a key, a message, or octets of a known type.
+/// The summary of a key, a message, or octets of a known type.
 fn other_words(
     alloc: Global,
     octets: &[u8],
@@ -61,14 +63,14 @@ fn other_words(
 ) -> Result<Option<Words>, AllocError>
     ensures { IfOk result (λ words. AreOtherWords now types.now octets.now words) }
 {
-    match text_of_message(alloc, octets) {
+    match text_of_message(alloc, octets, types) {
         Ok(Some(text)) => Ok(Some(words_alone(text, true))),
         Ok(None) => words_by_fields(alloc, octets, types, now),
         Err(e) => Err(e),
     }
 }
 
-/// Words with no lines of elements before them.
+/// A summary without lines of elements before it.
 fn words_alone(text: Vec<u8>, keeps_rules: bool) -> Words
     ensures text { result.text.items ≡ text.items }
     ensures start { result.words_at ≡ 0 }

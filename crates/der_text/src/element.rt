@@ -7,7 +7,7 @@ use crate::item::Form;
 use crate::length::{MOST, length_octets};
 use der_base::header::{Header, Length, ber_read_element_header};
 
-/// An element that octets begin with. Of an indefinite length the content is all that follows.
+/// The first element of octets. If its length is indefinite, the content is all that follows.
 #[derive(Clone, Copy)]
 pub struct Element<'a> {
     pub header: Header<'a>,
@@ -18,7 +18,7 @@ pub struct Element<'a> {
     pub rest: &'a [u8],
 }
 
-/// The element that octets begin with, if a form has its length octets, and all its content is there.
+/// The first element of octets, if its length octets have a form and all its content is there.
 pub(crate) fn split_element(octets: &[u8]) -> Option<Element<'_>>
     ensures { IfSome result (HasParts octets.now) }
 {
@@ -45,7 +45,7 @@ pub(crate) fn split_element(octets: &[u8]) -> Option<Element<'_>>
     })
 }
 
-/// The form of length octets, if they are those of a content of so many octets.
+/// The form of length octets, if they encode this content length.
 fn form_of(length: &[u8], content: usize) -> Option<Form>
     ensures { IfSome result (λ f. length_octets f content ≡ Some length.now) }
 {
@@ -58,7 +58,7 @@ fn form_of(length: &[u8], content: usize) -> Option<Form>
     None
 }
 
-/// The long form with as many octets.
+/// The long form with the same number of octets.
 fn long_form(length: &[u8]) -> Form {
     match u8::try_from(length.len().saturating_sub(1)) {
         Ok(count) => Form::Long(count),
@@ -66,7 +66,7 @@ fn long_form(length: &[u8]) -> Form {
     }
 }
 
-/// Whether length octets have a form.
+/// Returns whether length octets have this form and encode this content length.
 fn has_form(length: &[u8], form: Form, content: usize) -> bool
     ensures { IsTrue result → length_octets form content ≡ Some length.now }
 {

@@ -1,4 +1,4 @@
-//! The octets of items, from the last to the first: so a length is known when its octets are written.
+//! Encodes items backwards, so that each length is known when its octets are written.
 ghost use Rattle.std.specs.Prelude.{◌≡◌, ◌++◌, [], OnOk, reverse};
 ghost use Rattle.der_text.specs.Encoded.{GivesOrFaults, Leads, before, encoded, following, state_of, whole};
 
@@ -20,7 +20,7 @@ pub(crate) fn encode(alloc: Global, items: &[Item]) -> Result<Vec<u8>, Fault>
     encoder.finish()
 }
 
-/// The octets so far, from the last to the first, and the ends of the contents that are open.
+/// The octets so far, from the last to the first, and the ends of the open contents.
 #[derive(Drop)]
 pub(crate) struct Encoder {
     pub reversed: Vec<u8>,
@@ -37,7 +37,7 @@ impl Encoder {
         }
     }
 
-    /// Puts an item before what follows it.
+    /// Puts an item before those that were put.
     fn put(&mut self, item: Item) -> Result<(), Fault>
         ensures { Leads (before item (state_of self.old)) (state_of self.new) result }
     {
@@ -52,7 +52,7 @@ impl Encoder {
         Ok(())
     }
 
-    /// Puts the length octets of the innermost content that is open.
+    /// Puts the length octets of the innermost open content.
     fn open(&mut self, form: Form, left: usize) -> Result<(), Fault>
         ensures { Leads (before (Item.Open form left) (state_of self.old)) (state_of self.new) result }
     {

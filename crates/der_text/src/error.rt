@@ -1,4 +1,4 @@
-//! What may be wrong with a text.
+//! Errors of a text.
 ghost use Rattle.std.specs.Prelude.{◌≡◌};
 
 use std::alloc::{AllocError, AllocFailed};
@@ -67,7 +67,7 @@ pub struct TextError {
     pub column: usize,
 }
 
-/// What is wrong with a text, and how many of its octets are left there.
+/// The problem of a text, and the number of its octets that are left there.
 #[derive(Clone, Copy)]
 pub struct Fault {
     pub problem: Problem,

@@ -1,4 +1,4 @@
-//! What is written is read again.
+//! The round trip of octets.
 ghost use Rattle.std.specs.Prelude.{◌≡◌, MatchResult};
 
 use crate::error::{Problem, TextError};
@@ -6,7 +6,7 @@ use crate::octets::octets_of;
 use crate::printer::text_of;
 use std::alloc::Global;
 
-/// The octets of the text of octets are these octets.
+/// Reading the text of octets gives these octets.
 pub fn texts_have_their_octets(alloc: Global, octets: &[u8]) -> Result<Vec<u8>, Problem>
     ensures { MatchResult result (λ v. v.items ≡ octets.now) (λ e. e ≡ Problem.OutOfMemory) }
 {

@@ -2,17 +2,17 @@
 ghost use Rattle.std.specs.Prelude.{◌≡◌, ◌+◌, ◌-◌, ◌<◌, ◌≤◌, ◌∷◌, ◌++◌, length, replicate};
 ghost use Rattle.std.specs.Option.{option_copied};
 ghost use Rattle.der_base.specs.Octets.{octets, shortest_length};
-ghost use Rattle.der_octets.specs.Room.{PutsBefore};
+ghost use Rattle.der_values.specs.Octets.Room.{PutsBefore};
 ghost use Rattle.der_text.specs.Encoded.{length_octets, long_length};
 
 use crate::item::Form;
-use der_octets::header::{length_octet_count, octet_count, write_length, write_number};
-use der_octets::octets::write_octet;
+use der_values::octets::header::{length_octet_count, octet_count, write_length, write_number};
+use der_values::octets::write_octet;
 
 /// The most length octets (X.690 8.1.3.5).
 pub(crate) const MOST: usize = 127;
 
-/// The length octets of a content of so many octets, if the form has some.
+/// The length octets of a content length, if the form has them.
 pub(crate) fn length_octets(room: &mut [u8; MOST], form: Form, content: usize) -> Option<&[u8]>
     ensures { option_copied result ≡ length_octets form content }
 {
@@ -24,7 +24,7 @@ pub(crate) fn length_octets(room: &mut [u8; MOST], form: Form, content: usize) -
 }
 
 /// The fewest length octets.
-#[tactic(auto, using(der_octets::proofs::Room::puts_tail))]
+#[tactic(auto, using(der_values::proofs::OctetsLaws::Room::puts_tail))]
 fn shortest(room: &mut [u8; MOST], content: usize) -> &[u8]
     ensures { result.now ≡ shortest_length content }
 {
@@ -33,7 +33,7 @@ fn shortest(room: &mut [u8; MOST], content: usize) -> &[u8]
     &room[begin..]
 }
 
-/// Length octets of the long form, with so many after the first.
+/// Length octets of the long form, with `count` octets after the first.
 fn long(room: &mut [u8; MOST], count: usize, content: usize) -> Option<&[u8]>
     ensures { option_copied result ≡ long_length count (octets content) }
 {
@@ -46,7 +46,7 @@ fn long(room: &mut [u8; MOST], count: usize, content: usize) -> Option<&[u8]>
     Some(&room[begin..])
 }
 
-/// Writes a number of octets, and before it zeros and how many octets there are.
+/// Writes a length, with zeros and the number of octets before it.
 fn write_long(room: &mut [u8], count: usize, zeros: usize, content: usize)
     requires within { length room.old ≡ 127 }
     requires some { count < 127 }
@@ -58,7 +58,7 @@ fn write_long(room: &mut [u8], count: usize, zeros: usize, content: usize)
     write_octet(room, begin, 128 + count as u8);
 }
 
-/// Writes so many zeros before an offset.
+/// Writes zeros before an offset.
 fn write_zeros(room: &mut [u8], end: usize, count: usize) -> usize
     requires enough { count ≤ end }
     requires within { end ≤ length room.old }

@@ -1,4 +1,4 @@
-//! What a text begins with: white space, a comment, a brace, octets or a word.
+//! The start of a text: white space, a comment, a brace, octets or a word.
 ghost use Rattle.std.specs.Prelude.{◌≡◌, ◌+◌, ◌^◌, ◌<◌, ◌≤◌, ◌==◌, [], ◌∷◌, IfOk, IfSome, Ok, Some};
 ghost use Rattle.std.specs.Prelude.{drop, length, not, position, take};
 ghost use Rattle.std.specs.List.{prefix_len};
@@ -15,7 +15,7 @@ use crate::word::{word_form, word_octets};
 use hex::FromHexError;
 use std::alloc::{AllocError, Global};
 
-/// The items that a text begins with, and how many of its octets they take after the first.
+/// The items that a text begins with, and the number of octets that they take after the first.
 #[tactic(auto, unfolding(crate::specs::Lexemes::lexeme))]
 pub(crate) fn read_lexeme(
     alloc: Global,
@@ -38,14 +38,14 @@ pub(crate) fn read_lexeme(
     }
 }
 
-/// How many octets precede the end of a line.
+/// The number of octets before the end of the line.
 fn line_length(text: &[u8]) -> usize
     ensures { result ≡ prefix_len (λ x. not (x == 10)) text.now }
 {
     text.iter().take_while(|octet| **octet != b'\n').count()
 }
 
-/// One item, and how many octets it takes.
+/// One item, and the number of octets that it takes.
 fn one_item(alloc: Global, item: Item, used: usize) -> Result<(Vec<Item>, usize), Problem>
     ensures { Lexes (Ok (item ∷ [], used)) result }
 {
@@ -76,7 +76,7 @@ fn part_before(delimiter: u8, text: &[u8]) -> Option<&[u8]>
     }
 }
 
-/// How many octets precede a delimiter or the end of a line.
+/// The number of octets before the first delimiter or line end, if there is one.
 fn part_length(delimiter: u8, text: &[u8]) -> Option<usize>
     ensures value { result ≡ position (ends_part delimiter) text.now }
     ensures within { IfSome result (λ n. n < length text.now) }
@@ -85,7 +85,7 @@ fn part_length(delimiter: u8, text: &[u8]) -> Option<usize>
         .position(|octet| *octet == delimiter || *octet == b'\n')
 }
 
-/// Octets in quotes.
+/// Reads octets in quotes.
 fn quoted(alloc: Global, after: &[u8]) -> Result<(Vec<Item>, usize), Problem>
     ensures { Lexes (delimited Problem.Quote Some (part_before 34 after.now)) result }
 {
@@ -96,7 +96,7 @@ fn quoted(alloc: Global, after: &[u8]) -> Result<(Vec<Item>, usize), Problem>
     Ok((items, octets.len() + 1))
 }
 
-/// Octets in hexadecimal digits.
+/// Reads hexadecimal octets.
 fn hexadecimal(alloc: Global, after: &[u8]) -> Result<(Vec<Item>, usize), Problem>
     ensures { Lexes (delimited Problem.Hexadecimal (λ w. if_decoded (decode_of w)) (part_before 96 after.now)) result }
 {
@@ -110,7 +110,7 @@ fn hexadecimal(alloc: Global, after: &[u8]) -> Result<(Vec<Item>, usize), Proble
     Ok((items, digits.len() + 1))
 }
 
-/// The octets of pairs of hexadecimal digits.
+/// Decodes pairs of hexadecimal digits.
 fn decoded(alloc: Global, digits: &[u8]) -> Result<Option<Vec<u8>>, AllocError>
     ensures { IfOk result (λ found. option_map (λ v. v.items) found ≡ if_decoded (decode_of digits.now)) }
 {
@@ -121,7 +121,7 @@ fn decoded(alloc: Global, digits: &[u8]) -> Result<Option<Vec<u8>>, AllocError>
     }
 }
 
-/// A tag in brackets.
+/// Reads a tag in brackets.
 fn tag(alloc: Global, after: &[u8]) -> Result<(Vec<Item>, usize), Problem>
     ensures { Lexes (delimited Problem.Tag tag_octets (part_before 93 after.now)) result }
 {
@@ -135,7 +135,7 @@ fn tag(alloc: Global, after: &[u8]) -> Result<(Vec<Item>, usize), Problem>
     Ok((items, tag.len() + 1))
 }
 
-/// A word, or the form of a length and a brace.
+/// Reads a word, or the form of a length and a brace.
 fn word(alloc: Global, text: &[u8]) -> Result<(Vec<Item>, usize), Problem>
     ensures { Lexes (word (length text.now) text.now) result }
 {
@@ -150,7 +150,7 @@ fn word(alloc: Global, text: &[u8]) -> Result<(Vec<Item>, usize), Problem>
     }
 }
 
-/// The word that a text begins with, and what follows it.
+/// The word that a text begins with, and the text after it.
 fn split_word(text: &[u8]) -> (&[u8], &[u8])
     ensures word { result.0.now ≡ take (prefix_len is_word text.now) text.now }
     ensures after { result.1.now ≡ drop (prefix_len is_word text.now) text.now }
@@ -159,7 +159,7 @@ fn split_word(text: &[u8]) -> (&[u8], &[u8])
     text.split_at(word_length(text))
 }
 
-/// How many octets of words a text begins with.
+/// The number of word octets that a text begins with.
 fn word_length(text: &[u8]) -> usize
     ensures count { result ≡ prefix_len is_word text.now }
     ensures within { result ≤ length text.now }
@@ -167,14 +167,14 @@ fn word_length(text: &[u8]) -> usize
     text.iter().take_while(|octet| is_word(**octet)).count()
 }
 
-/// Whether an octet is in words: letters, digits and `-`, `.`, `:`, `_`.
+/// Returns whether an octet may be in a word: letters, digits and `-`, `.`, `:`, `_`.
 pub(crate) fn is_word(octet: u8) -> bool
     ensures { result ≡ is_word octet }
 {
     octet.is_ascii_alphanumeric() || matches!(octet, b'-' | b'.' | b':' | b'_')
 }
 
-/// The brace after the form of a length, which took so many octets.
+/// Reads the brace after the form of a length, which took `used` octets.
 fn brace_after(
     alloc: Global,
     form: Form,
@@ -192,7 +192,7 @@ fn brace_after(
     }
 }
 
-/// How many octets of white space a text begins with.
+/// The number of white space octets that a text begins with.
 fn blank_length(text: &[u8]) -> usize
     ensures count { result ≡ prefix_len is_blank text.now }
     ensures within { result ≤ length text.now }
@@ -200,7 +200,7 @@ fn blank_length(text: &[u8]) -> usize
     text.iter().take_while(|octet| is_blank(**octet)).count()
 }
 
-/// Whether an octet is white space.
+/// Returns whether an octet is white space.
 fn is_blank(octet: u8) -> bool
     ensures { result ≡ is_blank octet }
 {

@@ -1,6 +1,6 @@
-//! Elements as a text that one can write: the octets of a text, and a text of octets (docs/TEXT.md).
+//! A text form of elements that people can write: converts text to octets and octets to text (docs/TEXT.md).
 //!
-//! The text of octets has the same octets, whatever they are.
+//! Any octets have a text, and reading the text gives them back.
 #![tactic(auto)]
 
 mod element;

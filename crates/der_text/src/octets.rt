@@ -9,10 +9,10 @@ use crate::error::{Fault, Problem, TextError};
 use crate::reader::read_items;
 use std::alloc::Global;
 
-/// The octets that a text has (docs/TEXT.md).
+/// The octets of a text (docs/TEXT.md).
 ///
-/// Errors: the first word of the text that isn't of the grammar, else the last brace that isn't closed or whose length
-/// doesn't fit its form, else the first brace that closes none; `OutOfMemory`.
+/// The error is the first word that isn't of the grammar; else the last brace that isn't closed, or whose length
+/// doesn't fit its form; else the first closing brace without an opening one; or `OutOfMemory`.
 ///
 /// ```
 /// let octets = octets_of(alloc, b"SEQUENCE { INTEGER { 5 } }")?;
@@ -29,7 +29,7 @@ pub fn octets_of(alloc: Global, text: &[u8]) -> Result<Vec<u8>, TextError>
     }
 }
 
-/// The octets that a text has, or what is wrong with it.
+/// The octets of a text, or its fault.
 fn octets_or_fault(alloc: Global, text: &[u8]) -> Result<Vec<u8>, Fault>
     ensures { GivesOrFaults (octets_or_fault text.now) result }
 {
@@ -39,7 +39,7 @@ fn octets_or_fault(alloc: Global, text: &[u8]) -> Result<Vec<u8>, Fault>
     }
 }
 
-/// An error with the line and column where so many octets of the text are left.
+/// The error with the line and column of a fault.
 fn located(text: &[u8], fault: Fault) -> TextError
     ensures { result ≡ located text.now fault }
 {
@@ -51,14 +51,14 @@ fn located(text: &[u8], fault: Fault) -> TextError
     }
 }
 
-/// The line after a text.
+/// The number of the line after a text.
 fn line_after(text: &[u8]) -> usize
     ensures { result ≡ 1 + count_by (λ c. c == 10) text.now }
 {
     1 + text.iter().filter(|octet| **octet == b'\n').count()
 }
 
-/// The column after a text.
+/// The number of the column after a text.
 fn column_after(text: &[u8]) -> usize
     ensures { result ≡ 1 + suffix_len (λ c. not (c == 10)) text.now }
 {

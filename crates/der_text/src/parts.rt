@@ -1,4 +1,4 @@
-//! Octets as parts in quotes and in hexadecimal digits.
+//! Octets in quotes and in hexadecimal.
 ghost use Rattle.std.specs.Prelude.{◌≡◌, ◌<◌, ◌≤◌, [], IfOk, OnOk, length};
 ghost use Rattle.std.specs.List.{prefix_len};
 ghost use Rattle.der_text.specs.Printed.{Prints, Puts, is_plain};
@@ -6,8 +6,7 @@ ghost use Rattle.der_text.specs.Printed.{Prints, Puts, is_plain};
 use crate::write::{MANY, write_hexadecimal, write_line_end, write_quoted, write_spaces};
 use std::alloc::AllocError;
 
-/// Writes octets: a text in quotes, and the rest in hexadecimal digits. Lines of digits after the first have an
-/// indentation.
+/// Writes octets: a text in quotes, the rest in hexadecimal. Lines after the first are indented.
 pub(crate) fn write_octets(
     out: &mut Vec<u8>,
     octets: &[u8],
@@ -36,13 +35,13 @@ fn write_break(out: &mut Vec<u8>, more: bool, indent: usize) -> Result<(), Alloc
     Ok(())
 }
 
-/// Whether octets are written as a text: they are UTF-8, and most of them may be in quotes.
+/// Returns whether octets are written as text: they are UTF-8, and most of them may be in quotes.
 fn is_text(octets: &[u8]) -> bool {
     let plain = octets.iter().filter(|octet| is_plain(**octet)).count();
     octets.len() - plain <= octets.len() / 4 && std::str::from_utf8(octets).is_ok()
 }
 
-/// Writes the first of some octets in quotes, if it may, or in hexadecimal digits. Returns what follows.
+/// Writes the first octets, in quotes if possible, else in hexadecimal. Returns the rest.
 fn write_part<'a>(out: &mut Vec<u8>, octets: &'a [u8], text: bool) -> Result<&'a [u8], AllocError>
     requires { 0 < length octets.now }
     ensures prints { IfOk result (λ rest. Prints out.old.items out.new.items octets.now rest.now) }
@@ -61,7 +60,7 @@ fn write_part<'a>(out: &mut Vec<u8>, octets: &'a [u8], text: bool) -> Result<&'a
     Ok(rest)
 }
 
-/// How many octets are written in hexadecimal digits at once.
+/// The number of octets to write in hexadecimal at once.
 fn part_length(octets: &[u8], text: bool) -> usize
     requires { 0 < length octets.now }
     ensures some { 0 < result }
@@ -80,7 +79,7 @@ fn part_length(octets: &[u8], text: bool) -> usize
     }
 }
 
-/// How many octets that may be in quotes come first.
+/// The number of leading octets that may be in quotes.
 fn plain_length(octets: &[u8]) -> usize
     ensures count { result ≡ prefix_len is_plain octets.now }
     ensures within { result ≤ length octets.now }
@@ -88,7 +87,7 @@ fn plain_length(octets: &[u8]) -> usize
     octets.iter().take_while(|octet| is_plain(**octet)).count()
 }
 
-/// Whether an octet may be in quotes.
+/// Returns whether an octet may be in quotes.
 fn is_plain(octet: u8) -> bool
     ensures { result ≡ is_plain octet }
 {

@@ -13,12 +13,11 @@ use crate::write::{write_close, write_line_end, write_open, write_spaces, write_
 use der_base::header::Tag;
 use std::alloc::{AllocError, Global};
 
-/// As many elements as this are written inside each other. What is deeper is written in hexadecimal.
+/// The most elements inside each other. Deeper content is written in hexadecimal.
 const LIMIT: usize = 100;
 
-/// The text of octets (docs/TEXT.md): elements as far as there are some, and hexadecimal digits.
-///
-/// `octets_of` returns the same octets. An error says that there was no memory.
+/// The text of octets (docs/TEXT.md): elements as far as possible, and hexadecimal. `octets_of` returns the same
+/// octets. The only error is a failed allocation.
 ///
 /// ```
 /// let text = text_of(alloc, &[0x30, 0x03, 0x02, 0x01, 0x05])?;
@@ -32,7 +31,7 @@ pub fn text_of(alloc: Global, octets: &[u8]) -> Result<Vec<u8>, AllocError>
     Ok(out)
 }
 
-/// Writes octets as elements, so many levels below the outermost ones.
+/// Writes octets as elements at this depth.
 #[cycle(elements)]
 fn write_elements(
     out: &mut Vec<u8>,
@@ -53,7 +52,7 @@ fn write_elements(
     Ok(())
 }
 
-/// Writes elements up to an end marker, or all. Returns what follows it.
+/// Writes elements up to the end-of-contents octets, or all. Returns the octets after them.
 #[cycle(elements)]
 fn write_to_end<'a>(
     out: &mut Vec<u8>,
@@ -79,7 +78,7 @@ fn write_to_end<'a>(
     Ok(rest)
 }
 
-/// What follows an end marker, if octets begin with one (X.690 8.1.5).
+/// The octets after end-of-contents octets, if these are first (X.690 8.1.5).
 fn after_end_marker(octets: &[u8]) -> Option<&[u8]>
     ensures { IfSome result (λ rest. octets.now ≡ 0 ∷ 0 ∷ rest.now) }
 {
@@ -89,7 +88,7 @@ fn after_end_marker(octets: &[u8]) -> Option<&[u8]>
     }
 }
 
-/// Writes an end marker (X.690 8.1.5).
+/// Writes end-of-contents octets (X.690 8.1.5).
 fn write_end(out: &mut Vec<u8>, depth: usize) -> Result<(), AllocError>
     requires { depth ≤ 100 }
     ensures { OnOk result (Puts out.old.items out.new.items (0 ∷ 0 ∷ [])) }
@@ -99,7 +98,7 @@ fn write_end(out: &mut Vec<u8>, depth: usize) -> Result<(), AllocError>
     Ok(())
 }
 
-/// Writes the element that octets begin with, or all octets if there is none. Returns what follows.
+/// Writes the first element, or all octets if there is none. Returns the octets after it.
 #[cycle(elements)]
 fn write_element<'a>(
     out: &mut Vec<u8>,
@@ -125,7 +124,7 @@ fn write_element<'a>(
     Ok(rest)
 }
 
-/// Writes what follows the identifier octets of an element. Returns what follows the element.
+/// Writes the rest of an element after its identifier octets. Returns the octets after the element.
 #[cycle(elements)]
 fn write_after_identifier<'a>(
     out: &mut Vec<u8>,
@@ -155,7 +154,7 @@ fn write_after_identifier<'a>(
     Ok(element.rest)
 }
 
-/// Whether a form is the indefinite one.
+/// Returns whether a form is the indefinite one.
 fn is_indefinite(form: Form) -> bool
     ensures { IsTrue result → form ≡ Form.Indefinite }
 {
@@ -184,7 +183,7 @@ fn write_content(
     Ok(())
 }
 
-/// Whether the content of an element is written as elements.
+/// Returns whether the content of an element is written as elements.
 fn has_elements(element: &Element<'_>) -> bool {
     if element.header.is_constructed() {
         return true;
@@ -193,7 +192,7 @@ fn has_elements(element: &Element<'_>) -> bool {
     is_octet_string && is_list(element.content)
 }
 
-/// Whether octets are a SEQUENCE or a SET, by a look at its header.
+/// Returns whether octets are a SEQUENCE or a SET, by the header.
 fn is_list(octets: &[u8]) -> bool {
     match split_element(octets) {
         Some(element) => {
@@ -233,7 +232,7 @@ fn write_value_word(
     }
 }
 
-/// Writes the name of a type, or a tag in brackets, if either has the identifier octets.
+/// Writes the name of a type or a tag in brackets, if either has these identifier octets.
 fn write_identifier(
     out: &mut Vec<u8>,
     alloc: Global,
@@ -248,14 +247,14 @@ fn write_identifier(
     write_tag(out, alloc, tag.as_bytes(), element.identifier)
 }
 
-/// The spaces before further lines of octets.
+/// The indentation of further lines of octets.
 fn indent_of(depth: usize) -> usize
     requires { depth ≤ 100 }
 {
     2 * depth + 2
 }
 
-/// Writes octets on a line, or on some.
+/// Writes octets on one or several lines.
 fn write_line(out: &mut Vec<u8>, octets: &[u8], indent: usize) -> Result<(), AllocError>
     ensures { OnOk result (Puts out.old.items out.new.items octets.now) }
 {

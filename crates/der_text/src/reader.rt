@@ -8,7 +8,7 @@ use crate::item::Item;
 use crate::lexeme::read_lexeme;
 use std::alloc::Global;
 
-/// The items of a text, or the first thing that is none.
+/// The items of a text, or the first fault.
 pub(crate) fn read_items(alloc: Global, text: &[u8]) -> Result<Vec<Item>, Fault>
     ensures { GivesOrFaults (items_of text.now) result }
 {
@@ -28,7 +28,7 @@ pub(crate) fn read_items(alloc: Global, text: &[u8]) -> Result<Vec<Item>, Fault>
     Ok(items)
 }
 
-/// A text without so many octets, or empty if it has fewer.
+/// A text without its first `count` octets, or empty if it has fewer.
 fn without_first(text: &[u8], count: usize) -> &[u8]
     ensures { result.now ≡ drop count text.now }
 {

@@ -1,4 +1,4 @@
-//! Tags in brackets, as `[0]` and `[APPLICATION 3 PRIMITIVE]`.
+//! Tags in brackets, such as `[0]` and `[APPLICATION 3 PRIMITIVE]`.
 ghost use Rattle.std.specs.Prelude.{◌≡◌, IfOk};
 ghost use Rattle.std.specs.Option.{option_map};
 ghost use Rattle.der_base.specs.Octets.{identifier};
@@ -6,10 +6,10 @@ ghost use Rattle.der_text.specs.Words.{class_first, form_last, tag_octets};
 
 use crate::word::decimal_number;
 use der_base::header::{Class, Tag};
-use der_octets::header::{identifier_octet_count, write_identifier};
+use der_values::octets::header::{identifier_octet_count, write_identifier};
 use std::alloc::{AllocError, Global};
 
-/// The identifier octets of a tag (X.690 8.1.2): a class, if it isn't context-specific, a number, and `PRIMITIVE`.
+/// The identifier octets of a tag (X.690 8.1.2): a class unless context-specific, a number, and perhaps `PRIMITIVE`.
 #[tactic(auto, unfolding(crate::specs::Words::tag_octets))]
 pub(crate) fn tag_octets(alloc: Global, tag: &[u8]) -> Result<Option<Vec<u8>>, AllocError>
     ensures { IfOk result (λ found. option_map (λ v. v.items) found ≡ tag_octets tag.now) }
@@ -28,7 +28,7 @@ pub(crate) fn tag_octets(alloc: Global, tag: &[u8]) -> Result<Option<Vec<u8>>, A
     Ok(Some(octets))
 }
 
-/// The class of a tag, and what follows its name.
+/// The class of a tag, and the text after its name.
 fn class_first(tag: &[u8]) -> (Class, &[u8])
     ensures { (result.0, result.1.now) ≡ class_first tag.now }
 {
@@ -44,7 +44,7 @@ fn class_first(tag: &[u8]) -> (Class, &[u8])
     (Class::ContextSpecific, tag)
 }
 
-/// Whether a tag is of a constructed element, and what precedes that.
+/// Returns whether a tag is constructed, and the text before `PRIMITIVE`.
 fn form_last(tag: &[u8]) -> (bool, &[u8])
     ensures { (result.0, result.1.now) ≡ form_last tag.now }
 {
@@ -55,7 +55,7 @@ fn form_last(tag: &[u8]) -> (bool, &[u8])
 }
 
 /// Identifier octets.
-#[tactic(auto, using(der_octets::proofs::Room::puts_tail))]
+#[tactic(auto, using(der_values::proofs::OctetsLaws::Room::puts_tail))]
 fn identifier_octets(room: &mut [u8; 6], class: Class, constructed: bool, tag: Tag) -> &[u8]
     ensures { result.now ≡ identifier class constructed tag.0 }
 {

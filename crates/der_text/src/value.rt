@@ -1,4 +1,4 @@
-//! Words for the contents of primitive elements. Whether they have the octets is tested where they are written.
+//! Words for the contents of primitive elements. The writer tests that they give back the octets.
 use crate::element::Element;
 use der_base::header::{Class, Header, Tag};
 use der_base::integer::{read_i64, read_u64};
@@ -6,7 +6,7 @@ use der_base::oid::Oid;
 use std::alloc::{AllocError, Global};
 use std::borrow::CowSlice;
 
-/// The tag of a header as it is written in brackets.
+/// The tag of a header in brackets.
 pub(crate) fn tag_text(alloc: Global, header: &Header<'_>) -> Result<String, AllocError> {
     let class = match header.class() {
         Class::Universal => "UNIVERSAL ",
@@ -23,7 +23,7 @@ pub(crate) fn tag_text(alloc: Global, header: &Header<'_>) -> Result<String, All
     format!(in alloc; "{class}{number}{form}")
 }
 
-/// A word for the content of a primitive element, if its type has some.
+/// A word for the content of a primitive element, if its type has one.
 pub(crate) fn value_word(
     alloc: Global,
     element: &Element<'_>,

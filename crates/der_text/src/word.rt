@@ -1,4 +1,4 @@
-//! Words: the octets that they have, and the forms of lengths that they name.
+//! Words: their octets, and the forms of lengths that they name.
 ghost use Rattle.std.specs.Prelude.{◌≡◌, ◌-◌, IfOk, Some, codes, find};
 ghost use Rattle.std.specs.Char.{is_ascii_digit};
 ghost use Rattle.std.specs.List.{list_all};
@@ -11,11 +11,11 @@ ghost use Rattle.der_text.specs.Words.{other_types, same, string_types, value_wo
 use crate::item::Form;
 use der_base::error::OidParseError;
 use der_base::oid::Oid;
-use der_octets::header::{integer_octet_count, write_integer};
+use der_values::octets::header::{integer_octet_count, write_integer};
 use std::alloc::{AllocError, Global};
 use std::str;
 
-/// Types with a value of their own.
+/// Types other than strings and times.
 const BASIC_TYPES: [(&[u8], &[u8]); 9] = [
     (b"BOOLEAN", b"\x01"),
     (b"INTEGER", b"\x02"),
@@ -28,7 +28,7 @@ const BASIC_TYPES: [(&[u8], &[u8]); 9] = [
     (b"RELATIVE-OID", b"\x0d"),
 ];
 
-/// Types whose elements are constructed.
+/// Types with constructed elements.
 const CONSTRUCTED_TYPES: [(&[u8], &[u8]); 5] = [
     (b"SEQUENCE", b"\x30"),
     (b"SET", b"\x31"),
@@ -37,7 +37,7 @@ const CONSTRUCTED_TYPES: [(&[u8], &[u8]); 5] = [
     (b"CHARACTER_STRING", b"\x3d"),
 ];
 
-/// Types of strings.
+/// String types.
 const STRING_TYPES: [(&[u8], &[u8]); 8] = [
     (b"UTF8String", b"\x0c"),
     (b"NumericString", b"\x12"),
@@ -49,7 +49,7 @@ const STRING_TYPES: [(&[u8], &[u8]); 8] = [
     (b"VisibleString", b"\x1a"),
 ];
 
-/// Further strings, and times.
+/// Further string types, and times.
 const OTHER_TYPES: [(&[u8], &[u8]); 6] = [
     (b"ObjectDescriptor", b"\x07"),
     (b"UTCTime", b"\x17"),
@@ -59,14 +59,14 @@ const OTHER_TYPES: [(&[u8], &[u8]); 6] = [
     (b"BMPString", b"\x1e"),
 ];
 
-/// The contents of a BOOLEAN (X.690 8.2), and an end marker (8.1.5).
+/// The contents of a BOOLEAN (X.690 8.2), and end-of-contents octets (8.1.5).
 const VALUE_WORDS: [(&[u8], &[u8]); 3] = [
     (b"TRUE", b"\xff"),
     (b"FALSE", b"\x00"),
     (b"END", b"\x00\x00"),
 ];
 
-/// The octets of a word, if it has some.
+/// The octets of a word, if it has any.
 #[tactic(auto, unfolding(crate::specs::Words::word_octets))]
 pub(crate) fn word_octets(alloc: Global, word: &[u8]) -> Result<Option<Vec<u8>>, AllocError>
     ensures { IfOk result (λ found. option_map (λ v. v.items) found ≡ word_octets word.now) }
@@ -136,7 +136,7 @@ fn value_octets(word: &[u8]) -> Option<&'static [u8]>
     Some(octets)
 }
 
-/// The first row with a word.
+/// The first row with this word.
 fn row_of<'r>(
     rows: &'r [(&'static [u8], &'static [u8])],
     word: &[u8],
@@ -160,7 +160,7 @@ fn name_in(rows: &[(&'static [u8], &'static [u8])], identifier: &[u8]) -> Option
     Some(name)
 }
 
-/// The contents of an INTEGER in decimal, the fewest octets in two's complement (X.690 8.3.2).
+/// The content octets of an INTEGER in decimal: the fewest, in two's complement (X.690 8.3.2).
 #[tactic(auto, unfolding(crate::specs::Words::integer_octets))]
 fn integer_octets(alloc: Global, word: &[u8]) -> Result<Option<Vec<u8>>, AllocError>
     ensures { IfOk result (λ found. option_map (λ v. v.items) found ≡ integer_octets word.now) }
@@ -171,7 +171,7 @@ fn integer_octets(alloc: Global, word: &[u8]) -> Result<Option<Vec<u8>>, AllocEr
     }
 }
 
-/// The fewest octets of a number in decimal.
+/// The fewest octets of a positive decimal number.
 fn positive_octets(alloc: Global, digits: &[u8]) -> Result<Option<Vec<u8>>, AllocError>
     ensures { IfOk result
         (λ found. option_map (λ v. v.items) found ≡ option_map shortest_integer (decimal_number digits.now)) }
@@ -184,7 +184,7 @@ fn positive_octets(alloc: Global, digits: &[u8]) -> Result<Option<Vec<u8>>, Allo
     Ok(Some(octets))
 }
 
-/// The fewest octets of the negative of a number in decimal.
+/// The fewest octets of a negative decimal number, given its digits.
 fn negative_octets(alloc: Global, digits: &[u8]) -> Result<Option<Vec<u8>>, AllocError>
     ensures { IfOk result (λ found. option_map (λ v. v.items) found
         ≡ option_and_then negative_octets (decimal_number digits.now)) }
@@ -201,7 +201,7 @@ fn negative_octets(alloc: Global, digits: &[u8]) -> Result<Option<Vec<u8>>, Allo
 }
 
 /// The fewest octets of a number (X.690 8.3.2).
-#[tactic(auto, using(der_octets::proofs::Room::puts_tail))]
+#[tactic(auto, using(der_values::proofs::OctetsLaws::Room::puts_tail))]
 fn number_octets(room: &mut [u8; 9], number: u64) -> &[u8]
     ensures { result.now ≡ shortest_integer number }
 {
@@ -210,14 +210,14 @@ fn number_octets(room: &mut [u8; 9], number: u64) -> &[u8]
     &room[begin..]
 }
 
-/// The complement of each bit.
+/// The octets with each bit complemented.
 fn complements(alloc: Global, octets: &[u8]) -> Result<Vec<u8>, AllocError>
     ensures { IfOk result (λ v. v.items ≡ complements octets.now) }
 {
     octets.iter().map(|octet| 255 - *octet).collect(alloc)
 }
 
-/// The number of at most 2^64-1 that decimal digits write.
+/// The number in decimal digits, up to 2^64-1.
 pub(crate) fn decimal_number(digits: &[u8]) -> Option<u64>
     ensures { result ≡ decimal_number digits.now }
 {
@@ -230,14 +230,14 @@ pub(crate) fn decimal_number(digits: &[u8]) -> Option<u64>
     text.parse().ok()
 }
 
-/// Whether octets are digits.
+/// Returns whether octets are digits.
 fn are_digits(text: &[u8]) -> bool
     ensures { result ≡ list_all is_ascii_digit text.now }
 {
     text.iter().all(|octet| octet.is_ascii_digit())
 }
 
-/// The contents of an OBJECT IDENTIFIER whose arcs have points between them (X.690 8.19).
+/// The content octets of an OBJECT IDENTIFIER in dotted form (X.690 8.19).
 #[tactic(auto, unfolding(crate::specs::Words::identifier_octets))]
 fn identifier_octets(alloc: Global, word: &[u8]) -> Result<Option<Vec<u8>>, AllocError>
     ensures { IfOk result (λ found. option_map (λ v. v.items) found ≡ identifier_octets word.now) }
@@ -258,21 +258,21 @@ fn identifier_octets(alloc: Global, word: &[u8]) -> Result<Option<Vec<u8>>, Allo
     }
 }
 
-/// Whether octets are digits and points.
+/// Returns whether octets are digits and dots.
 fn are_dotted(text: &[u8]) -> bool
     ensures { result ≡ list_all is_dotted text.now }
 {
     text.iter().all(|octet| is_dotted(*octet))
 }
 
-/// Whether an octet is a digit or a point.
+/// Returns whether an octet is a digit or a dot.
 fn is_dotted(octet: u8) -> bool
     ensures { result ≡ is_dotted octet }
 {
     octet.is_ascii_digit() || octet == b'.'
 }
 
-/// The form of length octets that a word names (X.690 8.1.3).
+/// The form of length octets with this name (X.690 8.1.3).
 #[tactic(auto, unfolding(crate::specs::Words::word_form))]
 pub(crate) fn word_form(word: &[u8]) -> Option<Form>
     ensures { result ≡ word_form word.now }

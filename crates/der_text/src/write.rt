@@ -13,7 +13,7 @@ use crate::tag::tag_octets;
 use crate::word::{word_form, word_octets};
 use std::alloc::{AllocError, Global};
 
-/// The most octets in hexadecimal that one part has.
+/// The most hexadecimal octets of one part.
 pub(crate) const MANY: usize = 32;
 
 /// Writes spaces.
@@ -26,7 +26,7 @@ pub(crate) fn write_spaces(out: &mut Vec<u8>, count: usize) -> Result<(), AllocE
     Ok(())
 }
 
-/// Writes the end of a line.
+/// Writes a line end.
 pub(crate) fn write_line_end(out: &mut Vec<u8>) -> Result<(), AllocError>
     ensures { OnOk result (Puts out.old.items out.new.items []) }
 {
@@ -88,7 +88,7 @@ pub(crate) fn write_quoted(out: &mut Vec<u8>, octets: &[u8]) -> Result<(), Alloc
     Ok(())
 }
 
-/// Writes octets in hexadecimal digits, and a space.
+/// Writes octets in hexadecimal, and a space.
 pub(crate) fn write_hexadecimal(out: &mut Vec<u8>, octets: &[u8]) -> Result<(), AllocError>
     requires { length octets.now ≤ 32 }
     ensures { OnOk result (Puts out.old.items out.new.items octets.now) }
@@ -101,7 +101,7 @@ pub(crate) fn write_hexadecimal(out: &mut Vec<u8>, octets: &[u8]) -> Result<(), 
     Ok(())
 }
 
-/// Hexadecimal digits.
+/// Octets in hexadecimal digits.
 fn digits_of<'a>(room: &'a mut [u8; 64], octets: &[u8]) -> &'a [u8]
     requires { length octets.now ≤ 32 }
     ensures { result.now ≡ encode_lower octets.now }
@@ -113,7 +113,7 @@ fn digits_of<'a>(room: &'a mut [u8; 64], octets: &[u8]) -> &'a [u8]
     digits
 }
 
-/// Writes the form of length octets and a brace, if a word has this form.
+/// Writes the form of length octets and a brace, if there is a word for the form.
 pub(crate) fn write_open(out: &mut Vec<u8>, alloc: Global, form: Form) -> Result<bool, AllocError>
     ensures { IfOk result (MayOpen out.old.items out.new.items form) }
 {
@@ -130,7 +130,7 @@ pub(crate) fn write_open(out: &mut Vec<u8>, alloc: Global, form: Form) -> Result
     }
 }
 
-/// Writes the brace that closes a content, and the end of the line.
+/// Writes the closing brace of a content, and a line end.
 pub(crate) fn write_close(out: &mut Vec<u8>) -> Result<(), AllocError>
     ensures { OnOk result (out.new.items ≡ out.old.items ++ 125 ∷ 10 ∷ []) }
 {
@@ -153,7 +153,7 @@ fn write_form(out: &mut Vec<u8>, alloc: Global, word: &[u8], form: Form) -> Resu
     Ok(true)
 }
 
-/// Whether a word names a form, and has no octets.
+/// Returns whether a word names a form and has no octets.
 fn names_form(alloc: Global, word: &[u8], form: Form) -> Result<bool, AllocError>
     ensures { IfOk result (λ yes. IsTrue yes → (word_octets word.now ≡ None) × (word_form word.now ≡ Some form)) }
 {
@@ -167,7 +167,7 @@ fn names_form(alloc: Global, word: &[u8], form: Form) -> Result<bool, AllocError
     }
 }
 
-/// Whether two forms are one.
+/// Returns whether two forms are the same.
 fn is_form(named: Form, form: Form) -> bool
     ensures { IsTrue result → named ≡ form }
 {
@@ -178,21 +178,21 @@ fn is_form(named: Form, form: Form) -> bool
     }
 }
 
-/// Whether octets are a word.
+/// Returns whether octets are a word.
 fn are_word(word: &[u8]) -> bool
     ensures { IsTrue result → (0 < length word.now) × (list_all is_word word.now ≡ true) }
 {
     !word.is_empty() && all_in_words(word)
 }
 
-/// Whether all octets may be in words.
+/// Returns whether all octets may be in words.
 fn all_in_words(word: &[u8]) -> bool
     ensures { result ≡ list_all is_word word.now }
 {
     word.iter().all(|octet| is_word(*octet))
 }
 
-/// Whether these octets were found.
+/// Returns whether the octets that were found are these.
 fn has_octets(found: Option<Vec<u8>>, octets: &[u8]) -> bool
     ensures { IsTrue result → option_map (λ v. v.items) found ≡ Some octets.now }
 {
@@ -202,7 +202,7 @@ fn has_octets(found: Option<Vec<u8>>, octets: &[u8]) -> bool
     }
 }
 
-/// Whether no bracket and no end of a line is in a tag.
+/// Returns whether a tag has no bracket and no line end.
 fn is_inside(tag: &[u8]) -> bool
     ensures { result ≡ list_all (λ c. not (ends_part 93 c)) tag.now }
 {

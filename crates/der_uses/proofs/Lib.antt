@@ -1,4 +1,5 @@
 pub mod ListLaws
+pub mod NamesLaws
 pub mod ObjectLaws
 pub mod TicketLaws
 pub mod UseLaws

@@ -1,5 +1,5 @@
 -- Objects that were read, and how many a visitor counts.
-use Rattle.std.proofs.Common.{◌≡◌, ◌⊎◌, ℕ, zero, suc, ◌+◌, ◌%◌, ◌^◌, ◌<◌, ◌≤◌, Option, None, Some, MatchOption, option_map, slice_get, slice_range, rules, List, [], ◌∷◌, length, take, Result, Ok, Err, Bor, IfOk, IfErr, MatchResult, ◌↔◌, refl, sym, ap, subst, ◌∙◌, arith, inl, inr}
+use Rattle.std.proofs.Common.{◌≡◌, ◌⊎◌, ℕ, zero, suc, ◌+◌, ◌%◌, ◌^◌, ◌<◌, ◌≤◌, Option, None, Some, MatchOption, option_map, slice_get, slice_range, rules, List, [], ◌∷◌, ◌++◌, length, map, take, append-nil, IfSome, Result, Ok, Err, Bor, IfOk, IfErr, MatchResult, ◌↔◌, refl, sym, ap, subst, ◌∙◌, arith, inl, inr}
 use Rattle.std.specs.Global.{Vec}
 use Rattle.std.specs.Result.{IsErrOf}
 use Rattle.der_parser.specs.declared.error.Err.{Err as Refused}
@@ -12,26 +12,31 @@ use Rattle.der_parser.specs.declared.Rules.TheVariants.{Der}
 use Rattle.der_parser.specs.declared.ber.BerObject.{BerObject}
 use Rattle.der_parser.specs.declared.ber.BerObjectContent.TheVariants.{Sequence}
 use Rattle.der_parser.specs.declared.nodes.Element.{Element}
+use Rattle.der_parser.specs.declared.nodes.Listed.{Listed as ListedElement}
 use Rattle.der_parser.specs.Answer.{AnswersOkOr}
 use Rattle.der_parser.specs.BerReading.{AnswersBer, ReadsBer}
 use Rattle.der_parser.specs.DerReading.{AnswersDer, ReadsDer}
 use Rattle.der_parser.specs.Encoding.{encoding}
 use Rattle.der_parser.specs.Header.{class_of, is_constructed, number_of}
 use Rattle.der_parser.specs.HeaderFacts.{form_of}
-use Rattle.der_parser.specs.Listing.{object_count}
-use Rattle.der_parser.specs.NodesReading.{AnswersNodes}
-use Rattle.der_parser.specs.Places.{overlay, placed}
+use Rattle.der_parser.specs.CheckedElements.{IsElement, primitive, constructed, indefinite}
+use Rattle.der_parser.specs.ElementListing.{ListsElements, listed, listed_one}
+use Rattle.der_parser.specs.Overlay.{overlay}
+use Rattle.der_parser.specs.Readers.{BeginsWithElement, Finds}
 use Rattle.der_parser.specs.Spelling.{BeginsWithBer, BeginsWithDer}
 use Rattle.der_parser.specs.Tree.{Content, Node, node}
 use Rattle.der_parser.specs.View.{content_tree, tree, trees}
-use Rattle.der_parser.specs.Views.{View, preorder, trees as trees_in}
+use Rattle.der_parser.specs.Vectors.{BeginsWithNone, HasElements}
+use Rattle.der_parser.specs.Views.{preorder}
 use Rattle.der_parser.specs.Visiting.{MeetsObject, Quietly, TakenThrough, quiet, stepped, through_entry, through_none}
-use Rattle.der_view.proofs.VectorLaws.{der_count}
+use Rattle.der_elements.proofs.CheckLaws.OneList.{all_same, one_same}
+use Rattle.der_elements.proofs.CheckLaws.Overlays.{map_same}
+use Rattle.der_parser.proofs.ViewLaws.Lists.{no_first}
 use Rattle.der_object.proofs.Trees.{sequence_tree}
 use Rattle.der_uses.specs.declared.shown.Depths.{Depths}
 use Rattle.der_uses.specs.declared.shown.Found.{Found}
 use Rattle.der_uses.specs.declared.shown.Found.TheVariants.{List as Listed}
-use Rattle.der_uses.specs.Uses.{FindsObject, HasNoNumber, IsFound, IsNotRewritten, IsPair, IsRewritten, depth, items_among, node_count}
+use Rattle.der_uses.specs.Uses.{FindsObject, HasNoNumber, HoldsElements, IsFound, IsNotRewritten, IsPair, IsRewritten, depth, node_count}
 
 pub ber_begins : {d : ℕ} {i : List ℕ} {o : BerObject} {rest : List ℕ} → ReadsBer d i o rest → BeginsWithBer d i (tree o) rest
 ber_begins {o = o} h = (h.spelling, h.octets, (form_of o, h.spells))
@@ -121,10 +126,26 @@ content_counts (stepped r) = absurd r
 pub met : (s t : Depths) (o : Node) (n : ℕ) → MeetsObject (Quietly (λ (s : Depths) (o : Node) (n : ℕ) (t : Depths). t.objects ≡ (s.objects + 1) % 2 ^ 64)) (Quietly (λ (s : Depths) (o : Content) (n : ℕ) (t : Depths). ⊥)) s o n t → t.objects ≤ s.objects + 1
 met s t o n m = omega (arith, object_counts m.object, content_counts m.content)
 
--- two objects that are the whole input
-pub pair_is : (i : List ℕ) (r : Result (Bor (List ℕ) × ℕ) (Refused BerError)) → AnswersNodes Der depth i r → IsPair i → (x : Bor (List ℕ) × ℕ) × (r ≡ Ok x) × (x.0.now ≡ []) × (x.1 ≡ 2)
-pair_is i (Ok x) a p = let e = a.only ([], 2) (p.0, p.1, sym p.2) in (x, refl, ap (λ y. y.0) e, ap (λ y. y.1) e)
-pair_is i (Err e) a p = absurd (no_memory _ _ e (a.only ([], 2) (p.0, p.1, sym p.2))).1
+-- an input begins with an element that is listed with so many
+abbrev Lists : List ℕ → ListedElement → Type 0
+Lists i x = (b : List ℕ) × (i ≡ b ++ x.rest.now) × (is : IsElement Der depth b) × (x.elements ≡ length (listed_one is 0))
+
+pub if_some : {A : Type 0} {P Q : A → Type 0} (r : Option A) → ((x : A) → P x → Q x) → IfSome r P → IfSome r Q
+if_some (Some x) f h = f x h
+if_some None f h = tt
+
+-- two elements that are the whole input
+pub pair_is : (i : List ℕ) (r : Option ListedElement) → Finds (BeginsWithElement Der depth i) (option_map (λ (x : ListedElement). x.rest) r) → IfSome r (Lists i) → IsPair i
+    → (x : ListedElement) × (r ≡ Some x) × (x.rest.now ≡ []) × (x.elements ≡ 2)
+pair_is i (Some x) f (b, eb, is2, count) (is, two) =
+    let same = one_same [] x.rest.now 0 0 is is2 refl (append-nil i ∙ eb) in
+    (x, refl, f.only [] (i, sym (append-nil i), is), count ∙ ap length (sym same.list) ∙ two)
+pair_is i None f l (is, two) = absurd (f.only [] (i, sym (append-nil i), is))
+
+pub is_pair_of : (i : List ℕ) (x : ListedElement) → Lists i x → x.rest.now ≡ [] → x.elements ≡ 2 → IsPair i
+is_pair_of i x (b, eb, is, count) none two =
+    let whole : b ≡ i = sym (eb ∙ ap (λ l. b ++ l) none ∙ append-nil b) in
+    subst (λ w. IsPair w) whole (is, sym count ∙ two)
 
 -- the elements in a buffer that has room for them
 overlay_length : {A : Type 0} (xs : List A) (n : ℕ) (ys : List A) → length (overlay xs n ys) ≡ length xs
@@ -133,19 +154,31 @@ overlay_length (x ∷ xs) (suc n) ys = ap suc (overlay_length xs n ys)
 overlay_length (x ∷ xs) zero [] = refl
 overlay_length (x ∷ xs) zero (y ∷ ys) = ap suc (overlay_length xs zero ys)
 
-pub got_elements : (r : Option (Bor (List Element))) (n : ℕ) (old new : List Element) (o : Node) → n ≡ object_count o → new ≡ overlay old 0 (placed o 0)
+pub got_elements : (i : List ℕ) (r : Option (Bor (List Element))) (n : ℕ) (old new : List Element) → ListsElements Der (λ e. e) depth i n old new
     → MatchOption r ((n < 0) ⊎ (length new < n)) (λ x. (0 ≤ n) × (n ≤ length new) × (x.now ≡ slice_range new 0 n) × (length x.now + 0 ≡ n))
-    → MatchOption r (length old < object_count o) (λ es. es.now ≡ placed o 0)
-got_elements None n old new o m q (inl l) = absurd (omega (arith, l))
-got_elements None n old new o m q (inr l) = omega (arith, l, m, ap length q, overlay_length old 0 (placed o 0))
-got_elements (Some x) n old new o m q (a, b, c, d) =
-    let ys = placed o 0 in
+    → HoldsElements i (length old) r
+got_elements i None n old new l (inl h) = absurd (omega (arith, h))
+got_elements i None n old new (are, kept) (inr h) =
+    let m = kept.0 in
+    let q = kept.1 in
+    λ other. let same = ap length (all_same 0 0 other are refl refl) in omega (arith, h, m, same, ap length q, overlay_length old 0 (map (λ x. x) (listed are 0)))
+got_elements i (Some x) n old new (are, kept) (a, b, c, d) =
+    let m = kept.0 in
+    let q = kept.1 in
+    let ys = listed are 0 in
+    let whole : new ≡ overlay old 0 ys = q ∙ ap (λ l. overlay old 0 l) (map_same ys) in
     let e : slice_range new 0 n ≡ take n new = search rules in
-    let l : length ys ≤ length old = omega (arith, b, m, ap length q, overlay_length old 0 ys, der_count o 0) in
-    c ∙ e ∙ ap (λ w. take n w) q ∙ ap (λ k. take k (overlay old 0 ys)) (m ∙ sym (der_count o 0)) ∙ overlay_taken old ys l
+    let l : length ys ≤ length old = omega (arith, b, m, ap length whole, overlay_length old 0 ys) in
+    (are, c ∙ e ∙ ap (λ w. take n w) whole ∙ ap (λ k. take k (overlay old 0 ys)) m ∙ overlay_taken old ys l)
 
--- the items of the first element
-pub items_counted : (i j : List ℕ) (es fs : List Element) (x : View) (n : ℕ) → j ≡ i → fs ≡ es → Some x ≡ slice_get (preorder j fs) 0 → n ≡ length (trees_in x.input x.inside) → Some n ≡ items_among i es
-items_counted i j es fs x n p q e m =
-    let s : Some x ≡ slice_get (preorder i es) 0 = e ∙ ap (λ k. slice_get (preorder k fs) 0) p ∙ ap (λ k. slice_get (preorder i k) 0) q in
-    ap Some m ∙ ap (λ o. option_map (λ (v : View). length (trees_in v.input v.inside)) o) s
+-- an element is listed first
+listed_some : {d : ℕ} {b : List ℕ} (is : IsElement Der d b) (a : ℕ) → [] ≡ listed_one is a → ⊥
+listed_some (primitive c t s w ht hs e m) a q = absurd cc
+listed_some (constructed c t s w ht hs e m are) a q = absurd cc
+listed_some (indefinite c t w ht er e m are) a q = absurd cc
+
+pub never_empty : (i j : List ℕ) (x : Option (Bor (List ℕ) × Vec Element)) (y : Bor (List ℕ) × Vec Element) (fs : List Element) → x ≡ Some y
+    → MatchOption x (BeginsWithNone Der depth i) (λ z. HasElements Der depth i z.0.now z.1.items) → fs ≡ y.1.items → None ≡ slice_get (preorder j fs) 0 → ⊥
+never_empty i j x y fs ex h ef none =
+    let (b, eb, is, q) : HasElements Der depth i y.0.now y.1.items = subst (λ z. MatchOption z (BeginsWithNone Der depth i) (λ u. HasElements Der depth i u.0.now u.1.items)) ex h in
+    listed_some is 0 (sym (no_first j fs none) ∙ ef ∙ q)

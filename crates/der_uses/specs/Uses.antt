@@ -3,6 +3,7 @@ use Rattle.std.specs.Prelude.{◌≡◌, ◌≢◌, ◌⊎◌, ℕ, ◌<◌, ◌
 use Rattle.std.specs.Prelude.{List, [], ◌++◌, length, Result, IfOk, MatchOption, MatchResult}
 use Rattle.std.specs.Prelude.{option_map, slice_get}
 use Rattle.std.specs.Borrow.{Bor}
+use Rattle.std.specs.declared.alloc.AllocError.{AllocError}
 use Rattle.der_parser.specs.declared.error.Err.{Err as Refused}
 use Rattle.der_parser.specs.declared.error.Err.TheVariants.{Error, OutOfMemory}
 use Rattle.der_parser.specs.declared.error.Error.{Error as BerError}
@@ -12,23 +13,22 @@ use Rattle.der_parser.specs.declared.Rules.TheVariants.{Der}
 use Rattle.der_parser.specs.declared.ber.Class.{Class}
 use Rattle.der_parser.specs.declared.ber.Class.TheVariants.{Universal}
 use Rattle.der_parser.specs.declared.nodes.Element.{Element}
-use Rattle.der_parser.specs.Answer.{MatchAnswer}
+use Rattle.der_parser.specs.CheckedElements.{AreElements, IsElement}
+use Rattle.der_parser.specs.ElementListing.{listed, listed_one}
+use Rattle.der_parser.specs.Vectors.{BeginsWithNone, BeginsWithSome, HasElements}
 use Rattle.der_parser.specs.BerReading.{FramingNeedsMemory, NeedsMemory}
 use Rattle.der_parser.specs.Elements.{Element as AnyValue, SpellsAny, element_of}
 use Rattle.der_parser.specs.Encoding.{encoding}
-use Rattle.der_parser.specs.Fault.{DerShowsFault}
 use Rattle.der_parser.specs.Formats.{As, Content, Each, Field, Format, Ignored, Number, Octets, OptionalTagged}
 use Rattle.der_parser.specs.Formats.{Required}
 use Rattle.der_parser.specs.Formats.{BitString, ObjectIdentifier, Only, Sequence, ◌⨾◌}
 use Rattle.der_parser.specs.Headers.{BeginsWithDerHeader}
 use Rattle.der_parser.specs.Kinds.{borrowed_octets}
-use Rattle.der_parser.specs.Listing.{object_count}
 use Rattle.der_parser.specs.Numbers.{BeginsWithDerNumber, NumberRefuses, NumberType, signed, unsigned}
 use Rattle.der_parser.specs.Octets.{integer_value}
-use Rattle.der_parser.specs.Places.{placed}
 use Rattle.der_parser.specs.Refusal.{refusal}
 use Rattle.der_parser.specs.Spelling.{BeginsWithBer, BeginsWithDer}
-use Rattle.der_parser.specs.Stable.{BerIsCut, DerIsCut}
+use Rattle.der_parser.specs.Stable.{BerIsCut}
 use Rattle.der_parser.specs.Tree.{Node, node, integer, sequence, string, Nodes, no_nodes, nodes, nodes_of}
 use Rattle.der_parser.specs.TypedReading.{SpellsTyped}
 use Rattle.der_parser.specs.Views.{preorder, trees}
@@ -85,26 +85,25 @@ request_tree number text = node Universal true 16 (sequence (nodes (node Univers
 
 -- Elements.
 
--- the elements of the object at the start of an input; None where there are more than so many
+-- the elements that octets are, with those inside them; None where they are none, or more than so many
 abbrev pub HoldsElements : List ℕ → ℕ → Option (Bor (List Element)) → Type 0
-HoldsElements i n x = (o : Node) × (rest : List ℕ) × BeginsWithDer depth i o rest
-    × MatchOption x (n < object_count o) (λ es. es.now ≡ placed o 0)
+HoldsElements i n x = MatchOption x ((are : AreElements Der depth i) → n < length (listed are 0))
+    (λ es. (are : AreElements Der depth i) × (es.now ≡ listed are 0))
 
 -- how many items the first of some elements has
 abbrev pub items_among : List ℕ → List Element → Option ℕ
 items_among i es = option_map (λ v. length (trees v.input v.inside)) (slice_get (preorder i es) 0)
 
--- how many items the object at the start of an input has
-abbrev pub CountsItems : List ℕ → Result (Option ℕ) (Refused BerError) → Type 0
-CountsItems i result = MatchAnswer result
-    (λ x. (o : Node) × (rest : List ℕ) × BeginsWithDer depth i o rest × (x ≡ items_among i (placed o 0)))
-    (DerShowsFault depth i)
-    (DerIsCut depth i)
-    ((o : Node) × (rest : List ℕ) × BeginsWithDer depth i o rest)
+-- how many items the element at the start of an input has; None where there is no element
+abbrev pub CountsItems : List ℕ → Result (Option ℕ) AllocError → Type 0
+CountsItems i result = MatchResult result
+    (λ x. MatchOption x (BeginsWithNone Der depth i)
+    (λ n. (rest : List ℕ) × (es : List Element) × HasElements Der depth i rest es × (Some n ≡ items_among i es)))
+    (λ _. BeginsWithSome Der depth i)
 
--- two objects, one inside the other, are the whole input
+-- two elements, one inside the other, are the whole input
 abbrev pub IsPair : List ℕ → Type 0
-IsPair i = (o : Node) × BeginsWithDer depth i o [] × (object_count o ≡ 2)
+IsPair i = (is : IsElement Der depth i) × (length (listed_one is 0) ≡ 2)
 
 -- Fields.
 

@@ -1,4 +1,4 @@
-//! Functions of the library that are handed to others of it by their own names.
+//! Functions of the library that are passed to other functions of it by name.
 ghost use Rattle.std.specs.Prelude.{◌≡◌, map, pos};
 ghost use Rattle.der_parser.specs.declared.Rules.{Rules};
 ghost use Rattle.der_parser.specs.declared.error.Err.TheVariants.{OutOfMemory};
@@ -28,7 +28,7 @@ pub struct Ticket<'a> {
     pub last: Any<'a>,
 }
 
-/// Reads field after field by the readers of the library.
+/// Reads field after field with the library's readers.
 pub fn read_ticket(input: &[u8]) -> Result<Ticket<'_>, Refusal<BerError>>
     ensures { ReadsWhole (Begins (Required (Sequence TicketFields)) input.now) ticket_of Never result }
 {

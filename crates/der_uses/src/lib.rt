@@ -1,8 +1,10 @@
-//! Uses of `der_parser`, one a function, from a crate whose code names `der_parser` alone. The doc comments of the
-//! library's calls show these bodies, and `handed` hands the library's functions on by their own names.
+//! Uses of `der_parser`, one in each function, from a crate whose code names `der_parser` alone. The doc comments of
+//! the library's calls show these bodies, and `handed` passes the library's functions on by name.
 #![tactic(auto)]
 
 mod handed;
+pub mod law_names;
+pub mod names;
 mod shown;
 
 pub use handed::{Ticket, read_identifiers, read_numbers, read_objects, read_ticket};

@@ -3,14 +3,11 @@ ghost use Rattle.std.specs.Prelude.{◌≡◌, ◌∷◌, ◌≤◌, ◌^◌, �
 ghost use Rattle.std.specs.Result.{IsErrOf};
 ghost use Rattle.der_parser.specs.declared.Rules.{Rules};
 ghost use Rattle.der_parser.specs.declared.error.Err.TheVariants.{OutOfMemory};
-ghost use Rattle.der_parser.specs.Answer.{MatchAnswer};
 ghost use Rattle.der_parser.specs.Encoding.{encoding};
-ghost use Rattle.der_parser.specs.Fault.{DerShowsFault};
 ghost use Rattle.der_parser.specs.Formats.{Each, Never, ReadsWhole, Required};
 ghost use Rattle.der_parser.specs.Listing.{object_count};
 ghost use Rattle.der_parser.specs.Numbers.{AnswersDerNumber, signed, unsigned};
 ghost use Rattle.der_parser.specs.Oids.{octets_of};
-ghost use Rattle.der_parser.specs.Stable.{DerIsCut};
 ghost use Rattle.der_parser.specs.View.{tree};
 ghost use Rattle.der_uses.specs.Uses.{Begins, BeginsWithElementOf, BeginsWithTagged, CertificateNumber, CountsItems};
 ghost use Rattle.der_uses.specs.Uses.{FindsObject, HasNoNumber, HoldsElements, IsFound};
@@ -25,9 +22,9 @@ use der_parser::der::{
     parse_der_tagged_explicit_g, parse_der_u32,
 };
 use der_parser::error::{BerError, Err, GenError, IResult, Needed};
-use der_parser::nodes::{Element, Nodes, check_der, parse_der_nodes, read_der_nodes};
+use der_parser::nodes::{Element, Listed, Nodes, list_element, list_elements, read_element};
 use der_parser::oid::{Oid, OidParseError};
-use der_parser::parse_der;
+use der_parser::{Rules, parse_der};
 use std::alloc::{AllocError, Global};
 
 /// What an input begins with.
@@ -168,8 +165,8 @@ impl Visit for Depths {
     }
 }
 
-/// `Visit`: how many objects are in an object, itself among them. That it is no fewer the clause of `run` doesn't say,
-/// since a function of a visitor may be left empty.
+/// `Visit`: how many objects are in an object, including itself. The clause of `run` allows fewer, since a function of
+/// a visitor may be left empty.
 pub fn object_count(object: &BerObject<'_>) -> u64
     ensures { result ≤ object_count (tree object.now) }
 {
@@ -178,50 +175,37 @@ pub fn object_count(object: &BerObject<'_>) -> u64
     counter.objects
 }
 
-/// `check_der`: whether an input is two objects, one inside the other, and nothing more.
+/// `list_element`: whether an input is two elements, one inside the other, and nothing more.
 pub fn is_pair(input: &[u8]) -> bool
     ensures { IsTrue result ↔ IsPair input.now }
 {
-    matches!(check_der(input, 50), Ok((&[], 2)))
+    matches!(
+        list_element::<Element>(input, Rules::Der, 50, &mut []),
+        Some(Listed {
+            elements: 2,
+            rest: &[]
+        })
+    )
 }
 
-/// `parse_der_nodes`: the elements of an object in a buffer, and None if the buffer is too short.
-pub fn elements_in<'b>(
-    input: &[u8],
-    nodes: &'b mut [Element],
-) -> Result<Option<&'b [Element]>, Err<BerError>>
-    ensures { MatchAnswer result
-        (λ x. HoldsElements input.now (length nodes.old) x)
-        (DerShowsFault 50 input.now)
-        (DerIsCut 50 input.now)
-        ⊥ }
+/// `list_elements`: the elements of the octets, in a buffer. None if the octets aren't elements, or the buffer is too
+/// small.
+pub fn elements_in<'b>(input: &[u8], slots: &'b mut [Element]) -> Option<&'b [Element]>
+    ensures { HoldsElements input.now (length slots.old) result }
 {
-    let (_rest, count) = parse_der_nodes(input, 50, nodes)?;
-    Ok(nodes.get(..count))
+    let count = list_elements(input, Rules::Der, 50, slots)?;
+    slots.get(..count)
 }
 
 /// Why the items of a list have no largest number.
 #[derive(Debug, Drop)]
 pub enum NoLargest {
-    /// The list can't be read.
-    Refused(Err<BerError>),
-    /// An item is no such number.
-    Item(BerError),
-    /// The buffer is too short.
-    TooMany,
-    /// There is no element.
+    /// The input doesn't begin with an element.
     Nothing,
-}
-
-impl From<Err<BerError>> for NoLargest {
-    ghost use Rattle.std.specs.Prelude.{◌≡◌};
-    ghost use Rattle.der_uses.specs.declared.shown.NoLargest.TheVariants.{Refused};
-
-    ghost from_gives = { λ e r. r ≡ Refused e };
-
-    fn from(e: Err<BerError>) -> NoLargest {
-        NoLargest::Refused(e)
-    }
+    /// An item has no such number.
+    Item(BerError),
+    /// The buffer is too small.
+    TooMany,
 }
 
 impl From<BerError> for NoLargest {
@@ -235,10 +219,13 @@ impl From<BerError> for NoLargest {
     }
 }
 
-/// `Nodes::new`: the largest number in a list, which is read to a buffer.
+/// `Nodes::new`: the largest number in a list whose elements are read into a buffer.
 pub fn largest_item(input: &[u8], elements: &mut [Element]) -> Result<u64, NoLargest> {
-    let (_, count) = parse_der_nodes(input, 50, elements)?;
-    let nodes = Nodes::new(input, elements.get(..count).ok_or(NoLargest::TooMany)?);
+    let listed = list_element(input, Rules::Der, 50, elements).ok_or(NoLargest::Nothing)?;
+    let nodes = Nodes::new(
+        input,
+        elements.get(..listed.elements).ok_or(NoLargest::TooMany)?,
+    );
     let mut largest = 0;
     for item in nodes.root().ok_or(NoLargest::Nothing)?.items() {
         largest = item.as_u64()?.max(largest);
@@ -246,11 +233,13 @@ pub fn largest_item(input: &[u8], elements: &mut [Element]) -> Result<u64, NoLar
     Ok(largest)
 }
 
-/// `read_der_nodes`: how many items a list has.
-pub fn item_count(alloc: Global, input: &[u8]) -> Result<Option<usize>, Err<BerError>>
+/// `read_element`: how many items the element at the start of an input has. None if there is no element.
+pub fn item_count(alloc: Global, input: &[u8]) -> Result<Option<usize>, AllocError>
     ensures { CountsItems input.now result }
 {
-    let (_rest, elements) = read_der_nodes(alloc, input, 50)?;
+    let Some((_rest, elements)) = read_element(alloc, input, Rules::Der, 50)? else {
+        return Ok(None);
+    };
     let nodes = Nodes::new(input, &elements);
     match nodes.root() {
         Some(root) => Ok(Some(root.items().count())),

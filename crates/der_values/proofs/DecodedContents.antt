@@ -11,7 +11,7 @@ use Rattle.der_base.specs.Tree.{Content}
 use Rattle.der_base.proofs.Leaves.Always.{passed_content}
 use Rattle.der_base.proofs.Leaves.Refusals.{none_refuses}
 use Rattle.der_base.proofs.Octets.Shortest.{IsOctet}
-use Rattle.der_laws.proofs.Leaves.AlwaysDer.{accepted_written, always_der}
+use Rattle.der_values.proofs.LawsLaws.Leaves.AlwaysDer.{accepted_written, always_der}
 use Rattle.der_values.specs.Kinds.{Decodes, checked, contents}
 use Rattle.der_values.proofs.ContentLaws.{constructed_refused}
 

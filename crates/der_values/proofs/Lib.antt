@@ -2,7 +2,9 @@ mod ContentLaws
 mod DecimalDigits
 pub mod DecodedContents
 pub mod Identifiers
+pub mod LawsLaws
 mod LimbNumbers
+pub mod OctetsLaws
 mod PaddedArcs
 mod SmallArcs
 pub mod Subidentifiers

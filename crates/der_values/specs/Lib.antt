@@ -3,4 +3,5 @@ pub mod Contents
 pub mod Decimal
 pub mod Identifiers
 pub mod Kinds
+pub mod Octets
 pub mod Values

@@ -12,8 +12,8 @@ use crate::oid::ends_subidentifier;
 impl<'a> ObjectIdentifier<'a> {
     ghost use Rattle.der_values.specs.Identifiers.{arcs_left};
 
-    /// The arcs, in order. None if the last octet doesn't end one (8.19.2). An identifier without octets
-    /// has no arcs.
+    /// The arcs, in order. None if the last octet doesn't end an arc (8.19.2). An identifier without octets has no
+    /// arcs.
     pub fn arcs(self) -> Option<Arcs<'a>>
         ensures { option_map arcs_left result ≡ arc_numbers self.entry.relative self.entry.octets.now }
     {
@@ -30,8 +30,8 @@ impl<'a> ObjectIdentifier<'a> {
     }
 }
 
-/// The number of an arc: that of a subidentifier, less what the arc in front takes of it (8.19.4).
-#[derive(Clone, Copy, Debug)]
+/// The number of an arc: that of a subidentifier, less 40 or 80 for a second arc after 1 or 2 (8.19.4).
+#[derive(Clone, Copy)]
 pub struct ArcNumber<'a> {
     groups: &'a [u8],
     less: u8,
@@ -47,18 +47,18 @@ impl ArcNumber<'_> {
 }
 
 /// The arc that an iterator returns next.
-#[derive(Clone, Copy, Debug)]
+#[derive(Clone, Copy)]
 enum NextArc<'a> {
-    /// The first of the two arcs that the first subidentifier of an OBJECT IDENTIFIER holds (8.19.4).
+    /// The first of the two arcs in the first subidentifier of an OBJECT IDENTIFIER (8.19.4).
     First,
-    /// The second of them.
+    /// The second arc of the first subidentifier.
     Second(ArcNumber<'a>),
-    /// The one in the next subidentifier.
+    /// The arc in the next subidentifier.
     Further,
 }
 
 /// The arcs of an identifier, in order.
-#[derive(Clone, Copy, Debug)]
+#[derive(Clone, Copy)]
 pub struct Arcs<'a> {
     octets: &'a [u8],
     next: NextArc<'a>,
@@ -116,7 +116,7 @@ pub(crate) fn split_groups(octets: &[u8]) -> Option<(&[u8], &[u8])>
     None
 }
 
-/// The two arcs that the first subidentifier holds (8.19.4).
+/// The two arcs in the first subidentifier (8.19.4).
 fn first_arcs(groups: &[u8]) -> (ArcNumber<'_>, ArcNumber<'_>)
     ensures { first_arcs (groups_value 0 groups.now) ≡ arc_number result.0 ∷ arc_number result.1 ∷ [] }
 {
@@ -134,7 +134,7 @@ fn first_arcs(groups: &[u8]) -> (ArcNumber<'_>, ArcNumber<'_>)
     )
 }
 
-/// The number that groups of seven bits spell, if it is below 2^128.
+/// The number in groups of seven bits, if it is below 2^128.
 pub(crate) fn number_of(groups: &[u8]) -> Option<u128>
     ensures { SomeIff result (groups_value 0 groups.now < 2 ^ 128) (groups_value 0 groups.now) }
 {

@@ -1,4 +1,4 @@
-//! BIT STRING.
+//! BIT STRING (X.690 8.6, 11.2).
 ghost use Rattle.std.specs.Prelude.{◌≡◌, ◌≤◌, ◌↔◌, [], ◌∷◌, IsTrue};
 ghost use Rattle.der_base.specs.Leaf.{HasZeroUnusedBits};
 ghost use Rattle.der_base.specs.LeafRefusal.{IsFirstRefusal};
@@ -12,14 +12,14 @@ use der_base::rules::Rules;
 /// The bits of a BIT STRING (X.690 8.6).
 #[derive(Clone, Copy, Debug, PartialEq)]
 pub struct BitString<'a> {
-    /// How many of the last bits aren't used.
+    /// How many of the last bits are unused.
     pub unused: u8,
-    /// The octets, with the unused bits.
+    /// The octets, including the unused bits.
     pub octets: &'a [u8],
 }
 
 impl BitString<'_> {
-    /// Whether a bit is 1, where bit 0 is the highest of the first octet. A bit past the end isn't.
+    /// Whether a bit is 1. Bit 0 is the highest bit of the first octet. A bit past the end isn't 1.
     #[tactic(auto, using(std::proofs::lemmas::Nat::Bits::shr_and_one))]
     pub fn is_set(&self, number: usize) -> bool
         ensures { result ≡ is_bit_set number self.now.octets.now }
@@ -31,10 +31,10 @@ impl BitString<'_> {
     }
 }
 
-/// The bits of a BIT STRING: its first octet is the number of unused bits (8.6.2).
+/// Reads a BIT STRING. Its first octet is the number of unused bits (8.6.2).
 ///
-/// By BER BerValueError for no octet. By DER InvalidLength for no octet; InvalidValue for more than
-/// seven unused bits; the constraint UnusedBitsNotZero (11.2.1).
+/// Errors by BER: BerValueError if there is no octet. By DER: InvalidLength if there is no octet; InvalidValue for more
+/// than seven unused bits; the constraint UnusedBitsNotZero (11.2.1).
 pub fn read_bits(rules: Rules, octets: &[u8]) -> Result<BitString<'_>, BerError>
     ensures { Decodes (λ v. (v.unused, v.octets.now)) (bit_strings rules) octets.now result }
 {
@@ -58,7 +58,7 @@ fn no_octet(rules: Rules) -> BerError
     }
 }
 
-/// Checks that by DER at most seven bits are unused, and that they are 0.
+/// Checks, by DER, that at most seven bits are unused and that they are 0.
 fn check_unused_bits(rules: Rules, unused: u8, bits: &[u8]) -> Result<(), BerError>
     ensures { Decodes (λ v. v) (checked (bit_strings rules)) (unused ∷ bits.now) result }
 {
@@ -72,8 +72,7 @@ fn check_unused_bits(rules: Rules, unused: u8, bits: &[u8]) -> Result<(), BerErr
     }
 }
 
-/// Returns whether this many last bits of the last octet are 0, and without octets whether the
-/// number is 0.
+/// Whether this many last bits of the last octet are 0. Without octets, whether the number is 0.
 pub fn are_last_bits_zero(count: u8, octets: &[u8]) -> bool
     requires { count ≤ 7 }
     ensures { IsTrue result ↔ HasZeroUnusedBits count octets.now }

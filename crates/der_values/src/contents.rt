@@ -1,4 +1,4 @@
-//! The content octets of any universal type but SEQUENCE and SET, whose contents are elements.
+//! The content octets of any universal type except SEQUENCE and SET, whose contents are elements.
 ghost use Rattle.std.specs.Prelude.{◌≡◌, false, true, IsTrue};
 ghost use Rattle.der_base.specs.declared.rules.Rules.{Rules};
 ghost use Rattle.der_base.specs.Leaf.{is_list, is_mapped};
@@ -18,11 +18,13 @@ use der_base::error::{BerError, DerConstraint};
 use der_base::header::Tag;
 use der_base::rules::Rules;
 
-/// The value of content octets in an element that is constructed or not (X.690 8.2 to 8.25; by DER 10.2
-/// and 11 too). The errors are those of the calls for each type. A constructed element is refused: by DER
-/// by the constraint Constructed. By BER an INTEGER, an OCTET STRING, a NULL and an end of contents keep
-/// their octets; ConstructUnexpected for the other types that are always primitive, and Unsupported for
-/// strings and times, whose parts aren't joined.
+/// Reads the content octets of a primitive or constructed element (X.690 8.2 to 8.25; by DER 10.2 and 11 too). The
+/// errors are those of the reader of each type.
+///
+/// By DER a constructed element is rejected by the constraint Constructed. By BER, a constructed INTEGER or OCTET
+/// STRING keeps its octets, and those of NULL and end-of-contents are ignored. The other types that are always
+/// primitive are ConstructUnexpected. Strings and times are Unsupported, since their parts aren't joined; a BIT STRING
+/// without octets is BerValueError.
 #[inline(always)]
 pub fn read_value<'a>(
     rules: Rules,
@@ -34,7 +36,7 @@ pub fn read_value<'a>(
     requires no_list { is_list tag.0 ≡ false }
     ensures { Decodes value_content (contents rules constructed tag.0) octets.now result }
 {
-    // `Ok(..?)` copies the answer of a call.
+    // `Ok(..?)` copies the result of a call.
     if constructed {
         Ok(read_constructed(rules, tag, octets)?)
     } else {
@@ -61,9 +63,9 @@ fn read_primitive<'a>(rules: Rules, tag: Tag, octets: &'a [u8]) -> Result<Value<
     requires no_list { is_list tag.0 ≡ false }
     ensures { Decodes value_content (primitives rules tag.0) octets.now result }
 {
-    // Strings and times are calls. The other readers are compiled in (docs/PERFORMANCE.md).
+    // Strings and times are calls. The other readers are inlined, so that their results don't go through memory.
     match tag {
-        // The marker of an end has no content octets either (8.1.5).
+        // End-of-contents has no content octets either (8.1.5).
         Tag::EndOfContent => {
             read_null(rules, octets)?;
             Ok(Value::EndOfContent)

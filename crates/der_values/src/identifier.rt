@@ -1,12 +1,12 @@
-//! Identifiers by their content octets.
+//! Identifiers by their content octets (X.690 8.19, 8.20).
 ghost use Rattle.std.specs.Prelude.{◌≡◌, false, true};
 ghost use Rattle.der_base.specs.Oids.{IsBorrowed, is_relative_of, octets_of};
 
 use der_base::oid::Oid;
 use std::borrow::CowSlice;
 
-/// An OBJECT IDENTIFIER or a RELATIVE-OID by its content octets (X.690 8.19, 8.20). It owns no memory, so
-/// code that has one reaches no allocator.
+/// An OBJECT IDENTIFIER or a RELATIVE-OID by its content octets (X.690 8.19, 8.20). It borrows them and needs no
+/// allocator.
 #[derive(Clone, Copy, Debug, PartialEq)]
 pub struct ObjectIdentifier<'a> {
     octets: &'a [u8],
@@ -36,7 +36,7 @@ impl<'a> ObjectIdentifier<'a> {
         }
     }
 
-    /// The same identifier, of an `Oid` that may own its octets.
+    /// The identifier of an `Oid`.
     pub fn of_oid(oid: &'a Oid<'_>) -> ObjectIdentifier<'a>
         ensures octets { result.octets.now ≡ octets_of oid.now }
         ensures relative { result.relative ≡ is_relative_of oid.now }
@@ -47,7 +47,7 @@ impl<'a> ObjectIdentifier<'a> {
         }
     }
 
-    /// The same identifier as an `Oid`, which borrows these octets.
+    /// The identifier as an `Oid` that borrows the octets.
     pub fn to_oid(self) -> Oid<'a>
         ensures octets { octets_of result ≡ self.entry.octets.now }
         ensures relative { is_relative_of result ≡ self.entry.relative }

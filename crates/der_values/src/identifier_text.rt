@@ -9,8 +9,8 @@ use crate::identifier::ObjectIdentifier;
 use crate::u128_arcs::U128Arcs;
 use std::fmt;
 
-/// The arcs with points between them, as in `1.2.840.113549`. If `u128_arcs` returns None, the octets in
-/// hexadecimal, as in `[2a 86]`. The text of an identifier without octets is empty.
+/// The arcs with points between them, as in `1.2.840.113549`. If `u128_arcs` returns None, the octets in hexadecimal,
+/// as in `[2a 86]`. Without octets the text is empty.
 impl fmt::Display for ObjectIdentifier<'_> {
     ghost output = { λ x. Some (arcs_text (u128_arcs x.relative x.octets.now) x.octets.now) };
 
@@ -43,7 +43,7 @@ fn write_further_arcs<W: fmt::Write>(f: &mut fmt::Formatter<W>, arcs: U128Arcs<'
     Ok(())
 }
 
-/// Writes the octets of an identifier without such arcs in hexadecimal, as `Oid` does, which has fewer.
+/// Writes the octets in hexadecimal if the arcs don't fit, as `Oid` does.
 fn write_octets<W: fmt::Write>(
     f: &mut fmt::Formatter<W>,
     identifier: ObjectIdentifier<'_>,

@@ -1,4 +1,5 @@
-//! Values of content octets, by BER and by DER. None of these calls but `to_decimal` allocates.
+//! Values of content octets, by BER and by DER. Only `to_decimal` allocates. `octets` writes headers and contents from
+//! the last octet to the first, and `laws` has the laws of the definitions.
 #![tactic(auto)]
 
 mod arcs;
@@ -7,7 +8,9 @@ mod contents;
 mod decimal;
 mod identifier;
 mod identifier_text;
+pub mod laws;
 mod numbers;
+pub mod octets;
 mod oid;
 mod simple;
 mod texts;

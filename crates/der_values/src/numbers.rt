@@ -1,4 +1,4 @@
-//! INTEGER and ENUMERATED.
+//! INTEGER and ENUMERATED (X.690 8.3, 8.4).
 ghost use Rattle.std.specs.Prelude.{◌≡◌, pos};
 ghost use Rattle.der_base.specs.Numbers.{signed, unsigned};
 ghost use Rattle.der_values.specs.Kinds.{Decodes, checked, enumerated_numbers, integers, numbers};
@@ -7,8 +7,8 @@ use der_base::error::BerError;
 use der_base::integer::{self, check_fewest_octets};
 use der_base::rules::Rules;
 
-/// The octets of an INTEGER, in two's complement (X.690 8.3). By DER they are the fewest for their
-/// number (8.3.2): the constraints IntegerEmpty, IntegerLeadingZeroes, IntegerLeadingFF.
+/// The octets of an INTEGER, in two's complement (X.690 8.3). By DER they must be the fewest (8.3.2); the errors are
+/// the constraints IntegerEmpty, IntegerLeadingZeroes and IntegerLeadingFF.
 pub fn read_integer(rules: Rules, octets: &[u8]) -> Result<&[u8], BerError>
     ensures { Decodes (λ v. v.now) (integers rules) octets.now result }
 {
@@ -16,7 +16,7 @@ pub fn read_integer(rules: Rules, octets: &[u8]) -> Result<&[u8], BerError>
     Ok(octets)
 }
 
-/// Checks that by DER the octets are the fewest for their number.
+/// Checks, by DER, that the octets are the fewest for their number.
 #[inline(always)]
 fn check_octets(rules: Rules, octets: &[u8]) -> Result<(), BerError>
     ensures { Decodes (λ v. v) (checked (integers rules)) octets.now result }
@@ -27,8 +27,7 @@ fn check_octets(rules: Rules, octets: &[u8]) -> Result<(), BerError>
     }
 }
 
-/// The number of an INTEGER from -2^63 to 2^63-1. After the errors of `read_integer`,
-/// IntegerTooLarge for any other.
+/// The number of an INTEGER from -2^63 to 2^63-1. Errors: those of `read_integer`, then IntegerTooLarge.
 pub fn read_i64(rules: Rules, octets: &[u8]) -> Result<i64, BerError>
     ensures { Decodes (λ v. v) (numbers rules (signed 64)) octets.now result }
 {
@@ -42,8 +41,8 @@ pub fn read_i32(rules: Rules, octets: &[u8]) -> Result<i32, BerError>
     integer::read_i32(read_integer(rules, octets)?)
 }
 
-/// The number of an INTEGER from 0 to 2^64-1. After the errors of `read_integer`, IntegerNegative for
-/// one below, IntegerTooLarge for one above.
+/// The number of an INTEGER from 0 to 2^64-1. Errors: those of `read_integer`, then IntegerNegative for a number below,
+/// IntegerTooLarge for one above.
 pub fn read_u64(rules: Rules, octets: &[u8]) -> Result<u64, BerError>
     ensures { Decodes pos (numbers rules (unsigned 64)) octets.now result }
 {

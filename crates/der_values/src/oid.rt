@@ -1,4 +1,4 @@
-//! The content octets of an OBJECT IDENTIFIER, and its arcs.
+//! The content octets of an OBJECT IDENTIFIER, and its arcs (X.690 8.19).
 ghost use Rattle.std.specs.Prelude.{◌≡◌, ◌↔◌, ◌⊎◌, [], ◌∷◌, IsTrue, MatchOption, None, Ok, Some, false, true};
 ghost use Rattle.std.specs.Option.{option_map};
 ghost use Rattle.der_base.specs.Arcs.{arcs, first_arcs};
@@ -10,8 +10,8 @@ use crate::identifier::ObjectIdentifier;
 use der_base::error::BerError;
 use der_base::oid::Oid;
 
-/// The OBJECT IDENTIFIER with these content octets (X.690 8.19). BerValueError if there are none, if the last
-/// arc has no end, or if an arc begins with an octet of 0x80 (8.19.2). An arc may have any size.
+/// The OBJECT IDENTIFIER with these content octets (X.690 8.19). An arc may have any size. BerValueError if there are
+/// no octets, if the last arc has no end, or if an arc begins with the octet 0x80 (8.19.2).
 pub fn read_identifier(octets: &[u8]) -> Result<ObjectIdentifier<'_>, BerError>
     ensures { Decodes borrowed_octets identifiers octets.now result }
 {
@@ -22,8 +22,8 @@ pub fn read_identifier(octets: &[u8]) -> Result<ObjectIdentifier<'_>, BerError>
     Ok(identifier)
 }
 
-/// As `read_identifier`, as an `Oid` that borrows the octets. An arc may have any size, though `Oid::iter`
-/// returns only arcs of at most nine octets.
+/// `read_identifier`, returning an `Oid` that borrows the octets. An arc may have any size, but `Oid::iter` only
+/// returns arcs of at most nine octets.
 pub fn read_oid(octets: &[u8]) -> Result<Oid<'_>, BerError>
     ensures { Decodes absolute_octets identifiers octets.now result }
 {
@@ -33,7 +33,7 @@ pub fn read_oid(octets: &[u8]) -> Result<Oid<'_>, BerError>
     }
 }
 
-/// Whether there is a last octet, and it ends an arc.
+/// Whether there are octets and the last one ends an arc.
 pub fn ends_subidentifier(octets: &[u8]) -> bool
     ensures { IsTrue result ↔ EndsSubidentifier octets.now }
 {
@@ -43,8 +43,8 @@ pub fn ends_subidentifier(octets: &[u8]) -> bool
     }
 }
 
-/// The OBJECT IDENTIFIER with these arcs, which has these content octets (8.19.2). A caller proves that,
-/// and for constants the check computes it. Nothing is compared or allocated when the program runs.
+/// The OBJECT IDENTIFIER with these arcs and these content octets (8.19.2). The caller proves that they belong
+/// together; for constants the check computes it. At run time nothing is compared or allocated.
 ///
 /// ```
 /// let key_usage = known_oid(&[2, 5, 29, 15], b"\x55\x1d\x0f");
@@ -57,8 +57,7 @@ pub fn known_oid<'a>(_arcs: &[u64], octets: &'a [u8]) -> ObjectIdentifier<'a>
     ObjectIdentifier::new(octets)
 }
 
-/// Whether an arc begins with an octet of 0x80 (X.690 8.19.2), as no OBJECT IDENTIFIER and no RELATIVE-OID
-/// may.
+/// Whether an arc begins with the octet 0x80. In an OBJECT IDENTIFIER or RELATIVE-OID none may (X.690 8.19.2).
 pub fn has_padded_arc(octets: &[u8]) -> bool
     ensures { IsTrue result ↔ HasPaddedArc octets.now }
 {
@@ -84,11 +83,12 @@ pub trait HasArcs {
 
     ghost own_arcs: { Self → Option (List ℕ) };
 
-    /// Whether it is the OBJECT IDENTIFIER with these arcs, which are those that `Oid::iter` returns. A
-    /// RELATIVE-OID is none. Allocates nothing, and stops at the first arc that differs.
+    /// Whether it is the OBJECT IDENTIFIER with these arcs, as `Oid::iter` returns them. It is false for a
+    /// RELATIVE-OID, and if an arc has ten octets or more. It allocates nothing, and stops at the first arc that
+    /// differs.
     ///
-    /// A padded arc (X.690 8.19.2) is the number that it spells, so `06 04 55 80 1d 0f` has the arcs of
-    /// `06 03 55 1d 0f`. `read_oid` refuses it.
+    /// A padded arc (X.690 8.19.2) counts as its number, so `06 04 55 80 1d 0f` has the arcs of `06 03 55 1d 0f`.
+    /// `read_oid` rejects it.
     fn is(&self, arcs: &[u64]) -> bool
         ensures { IsTrue result ↔ (own_arcs self.now ≡ Some arcs.now) };
 }
@@ -123,7 +123,7 @@ fn have_arcs(octets: &[u8], wanted: &[u64]) -> bool
     own_first == *first && own_second == *second && have_further_arcs(rest, further)
 }
 
-/// Whether the octets are the subidentifiers of these arcs, each of its own (8.20).
+/// Whether the octets are one subidentifier for each of these arcs (8.20).
 fn have_further_arcs(octets: &[u8], wanted: &[u64]) -> bool
     ensures { IsTrue result ↔ (arcs true octets.now ≡ Some wanted.now) }
 {
@@ -140,7 +140,7 @@ fn have_further_arcs(octets: &[u8], wanted: &[u64]) -> bool
     left.is_empty()
 }
 
-/// The two arcs that the first subidentifier holds (8.19.4).
+/// The two arcs in the first subidentifier (8.19.4).
 fn first_arcs(number: u64) -> (u64, u64)
     ensures { first_arcs number ≡ result.0 ∷ result.1 ∷ [] }
 {
@@ -148,11 +148,11 @@ fn first_arcs(number: u64) -> (u64, u64)
     (first, number - 40 * first)
 }
 
-/// The greatest number of octets in a subidentifier of 64 bits, as `Oid::iter` has it.
+/// The most octets of a subidentifier whose arc `Oid::iter` returns.
 const MOST_OCTETS: usize = 9;
 
-/// The number in the first subidentifier, and the octets after it. None if the octets don't begin with
-/// one, or it has more than nine octets.
+/// The number in the first subidentifier, and the octets after it. None if no subidentifier begins the octets, or if it
+/// has more than nine octets.
 fn split_subidentifier(octets: &[u8]) -> Option<(u64, &[u8])>
     ensures { MatchOption result ((octets.now ≡ []) ⊎ (arcs true octets.now ≡ None))
         (λ x. arcs true octets.now ≡ option_map (λ further. x.0 ∷ further) (arcs true x.1.now)) }

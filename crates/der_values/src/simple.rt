@@ -1,4 +1,4 @@
-//! BOOLEAN and NULL.
+//! BOOLEAN and NULL (X.690 8.2, 8.8, 11.1).
 ghost use Rattle.std.specs.Prelude.{[], ◌∷◌};
 ghost use Rattle.der_base.specs.declared.rules.Rules.{Rules};
 ghost use Rattle.der_values.specs.Kinds.{Decodes, booleans, nulls};
@@ -6,9 +6,10 @@ ghost use Rattle.der_values.specs.Kinds.{Decodes, booleans, nulls};
 use der_base::error::{BerError, DerConstraint};
 use der_base::rules::Rules;
 
-/// The value of a BOOLEAN (X.690 8.2): one octet, false if it is 00. By DER true is ff (11.1).
+/// The value of a BOOLEAN (X.690 8.2): one octet, which is 00 for false. By DER it is ff for true (11.1).
 ///
-/// InvalidLength for no octet or several; by DER the constraint InvalidBoolean for another octet.
+/// Errors: InvalidLength unless there is one octet; by DER the constraint InvalidBoolean for another octet than 00 and
+/// ff.
 pub fn read_bool(rules: Rules, octets: &[u8]) -> Result<bool, BerError>
     ensures { Decodes (λ v. v) (booleans rules) octets.now result }
 {
@@ -21,7 +22,7 @@ pub fn read_bool(rules: Rules, octets: &[u8]) -> Result<bool, BerError>
     }
 }
 
-/// The value of the octet of a BOOLEAN, which is 00 or ff by DER.
+/// The value of a BOOLEAN's octet by DER, 00 or ff.
 fn read_strict_octet(octet: u8) -> Result<bool, BerError>
     ensures { Decodes (λ v. v) (booleans Rules.Der) (octet ∷ []) result }
 {
@@ -32,7 +33,7 @@ fn read_strict_octet(octet: u8) -> Result<bool, BerError>
     }
 }
 
-/// Checks the octets of a NULL. By DER there are none (8.8.2): InvalidLength.
+/// Checks the octets of a NULL. By DER there must be none (8.8.2), else InvalidLength.
 pub fn read_null(rules: Rules, octets: &[u8]) -> Result<(), BerError>
     ensures { Decodes (λ v. v) (nulls rules) octets.now result }
 {

@@ -1,4 +1,4 @@
-//! UTCTime and GeneralizedTime.
+//! UTCTime and GeneralizedTime (X.690 8.25, 11.7, 11.8).
 ghost use Rattle.std.specs.Prelude.{◌≡◌, IsTrue};
 ghost use Rattle.der_base.specs.declared.rules.Rules.{Rules};
 ghost use Rattle.der_base.specs.Leaf.{is_time};
@@ -9,11 +9,11 @@ use der_base::header::Tag;
 use der_base::rules::Rules;
 use der_base::time::{self, ASN1DateTime, read_der_time};
 
-/// The time of a UTCTime or a GeneralizedTime (X.690 8.25). The year of a UTCTime is from 1950 to
-/// 2049 (RFC 5280 4.1.2.5.1).
+/// The time of a UTCTime or a GeneralizedTime (X.690 8.25). The year of a UTCTime is from 1950 to 2049 (RFC 5280
+/// 4.1.2.5.1).
 ///
-/// By BER InvalidDateTime for another text. By DER the constraint MissingTimeZone for one that does not
-/// end in Z, InvalidDateTime, and the constraints MissingSeconds and FractionNotMinimal (11.7, 11.8).
+/// Errors by BER: InvalidDateTime. By DER (11.7, 11.8), the first that applies: the constraint MissingTimeZone if the
+/// last octet isn't Z; InvalidDateTime; the constraints MissingSeconds and FractionNotMinimal.
 pub fn read_time(rules: Rules, tag: Tag, octets: &[u8]) -> Result<ASN1DateTime, BerError>
     requires { IsTrue (is_time tag.0) }
     ensures { Decodes (λ v. v) (times rules tag.0) octets.now result }
@@ -24,8 +24,7 @@ pub fn read_time(rules: Rules, tag: Tag, octets: &[u8]) -> Result<ASN1DateTime, 
     }
 }
 
-/// The fields of a UTCTime or a GeneralizedTime, with the two digits of a UTCTime's year. The errors are
-/// those of `read_time`.
+/// `read_time` with the year of a UTCTime as its two digits.
 pub fn read_moment(rules: Rules, tag: Tag, octets: &[u8]) -> Result<ASN1DateTime, BerError>
     requires { IsTrue (is_time tag.0) }
     ensures { Decodes (λ v. v) (moments rules tag.0) octets.now result }
@@ -36,7 +35,7 @@ pub fn read_moment(rules: Rules, tag: Tag, octets: &[u8]) -> Result<ASN1DateTime
     }
 }
 
-/// Reads by BER, where the year of a UTCTime has all its digits or two.
+/// Reads by BER. `whole` asks for the full year of a UTCTime.
 #[inline(always)]
 fn read_ber_time(whole: bool, tag: Tag, octets: &[u8]) -> Result<ASN1DateTime, BerError>
     requires { IsTrue (is_time tag.0) }
@@ -59,7 +58,7 @@ fn read_strict_time(tag: Tag, octets: &[u8]) -> Result<ASN1DateTime, BerError>
     }
 }
 
-/// The time with all digits of its year, of which a UTCTime has the last two.
+/// The time with the full year, if it is a UTCTime.
 fn with_whole_year(tag: Tag, time: ASN1DateTime) -> ASN1DateTime
     ensures { result ≡ with_whole_year tag.0 time }
 {

@@ -12,8 +12,8 @@ use crate::identifier::ObjectIdentifier;
 impl<'a> ObjectIdentifier<'a> {
     ghost use Rattle.der_values.specs.Identifiers.{u128_arcs_left};
 
-    /// The arcs as numbers, in order. None if the last octet doesn't end one (8.19.2), or if a
-    /// subidentifier is 2^128 or more. An identifier without octets has no arcs.
+    /// The arcs as numbers, in order. None if the last octet doesn't end an arc (8.19.2), or if a subidentifier is
+    /// 2^128 or more. An identifier without octets has no arcs.
     pub fn u128_arcs(self) -> Option<U128Arcs<'a>>
         ensures { option_map u128_arcs_left result ≡ u128_arcs self.entry.relative self.entry.octets.now }
     {
@@ -31,18 +31,18 @@ impl<'a> ObjectIdentifier<'a> {
 }
 
 /// The arc that an iterator returns next.
-#[derive(Clone, Copy, Debug)]
+#[derive(Clone, Copy)]
 enum NextNumber {
-    /// The first of the two arcs that the first subidentifier of an OBJECT IDENTIFIER holds (8.19.4).
+    /// The first of the two arcs in the first subidentifier of an OBJECT IDENTIFIER (8.19.4).
     First,
-    /// The second of them.
+    /// The second arc of the first subidentifier.
     Second(u128),
-    /// The one in the next subidentifier.
+    /// The arc in the next subidentifier.
     Further,
 }
 
 /// The arcs of an identifier as numbers, in order.
-#[derive(Clone, Copy, Debug)]
+#[derive(Clone, Copy)]
 pub struct U128Arcs<'a> {
     octets: &'a [u8],
     next: NextNumber,
@@ -107,7 +107,7 @@ fn split_number(octets: &[u8]) -> Option<(u128, &[u8])>
     }
 }
 
-/// The two arcs that the first subidentifier holds (8.19.4).
+/// The two arcs in the first subidentifier (8.19.4).
 fn first_numbers(number: u128) -> (u128, u128)
     ensures { first_arcs number ≡ result.0 ∷ result.1 ∷ [] }
 {

@@ -13,8 +13,8 @@ use der_base::integer::{read_i32, read_i64, read_u64, read_used_bits};
 use der_base::oid::Oid;
 use der_base::time::ASN1DateTime;
 
-/// What content octets are: the value of a universal type, or octets that stay as they are.
-#[derive(Clone, Copy, Debug)]
+/// The value of content octets: that of a universal type, or octets that stay as they are.
+#[derive(Clone, Copy)]
 pub enum Value<'a> {
     EndOfContent,
     Boolean(bool),
@@ -57,7 +57,7 @@ pub enum Value<'a> {
 }
 
 impl<'a> Value<'a> {
-    /// The value of a BOOLEAN (X.690 8.2).
+    /// The value of a BOOLEAN (X.690 8.2), else BerTypeError.
     pub fn as_bool(self) -> Result<bool, BerError>
         ensures { AnswersPart (λ b. b) (boolean_part (value_content self.entry)) result }
     {
@@ -67,7 +67,7 @@ impl<'a> Value<'a> {
         }
     }
 
-    /// An OBJECT IDENTIFIER or a RELATIVE-OID (8.19, 8.20).
+    /// An OBJECT IDENTIFIER or a RELATIVE-OID (8.19, 8.20), else BerTypeError.
     pub fn as_identifier(self) -> Result<ObjectIdentifier<'a>, BerError>
         ensures { AnswersPart (λ x. (x.relative, x.octets.now)) (identifier_part (value_content self.entry)) result }
     {
@@ -77,7 +77,7 @@ impl<'a> Value<'a> {
         }
     }
 
-    /// As `as_identifier`, as an identifier that may own its octets. It doesn't allocate.
+    /// `as_identifier`, returning an `Oid` that borrows the octets. It doesn't allocate.
     pub fn as_oid(self) -> Result<Oid<'a>, BerError>
         ensures { AnswersPart (λ x. (is_relative_of x, octets_of x))
             (identifier_part (value_content self.entry)) result }
@@ -85,7 +85,7 @@ impl<'a> Value<'a> {
         Ok(self.as_identifier()?.to_oid())
     }
 
-    /// The bits of a BIT STRING (8.6).
+    /// The bits of a BIT STRING (8.6), else BerTypeError.
     pub fn as_bitstring(self) -> Result<BitString<'a>, BerError>
         ensures { AnswersPart (λ v. (v.unused, v.octets.now)) (bit_string_part (value_content self.entry)) result }
     {
@@ -95,7 +95,7 @@ impl<'a> Value<'a> {
         }
     }
 
-    /// The fields of a UTCTime or a GeneralizedTime (8.25).
+    /// The fields of a UTCTime or a GeneralizedTime (8.25), else BerTypeError.
     pub fn as_datetime(self) -> Result<ASN1DateTime, BerError>
         ensures { AnswersPart (λ t. t) (time_part (value_content self.entry)) result }
     {
@@ -105,7 +105,7 @@ impl<'a> Value<'a> {
         }
     }
 
-    /// The text of a character string that is kept as one (8.23, 8.25): not of a BMPString or a
+    /// The text of a character string that is kept as one (8.23, 8.25), else BerTypeError, also for a BMPString or a
     /// UniversalString.
     pub fn as_str(self) -> Result<&'a str, BerError>
         ensures { AnswersPart (λ s. s.now) (text_part (value_content self.entry)) result }
@@ -125,7 +125,7 @@ impl<'a> Value<'a> {
         }
     }
 
-    /// The octets of an INTEGER, a BIT STRING, a string of any type or an unknown content.
+    /// The octets of an INTEGER, a BIT STRING, a string of any type or an unknown content, else BerTypeError.
     pub fn as_slice(self) -> Result<&'a [u8], BerError>
         ensures { AnswersPart (λ w. w.now) (octets_part (value_content self.entry)) result }
     {
@@ -140,8 +140,8 @@ impl<'a> Value<'a> {
         }
     }
 
-    /// The number of an INTEGER, in two's complement; that of no octets is 0. Errors: IntegerTooLarge if
-    /// it isn't from -2^63 to 2^63-1, BerValueError for another value.
+    /// The number of an INTEGER, in two's complement. No octets are 0. Errors: IntegerTooLarge if it isn't from -2^63
+    /// to 2^63-1; BerValueError for another value.
     pub fn as_i64(self) -> Result<i64, BerError>
         ensures { AnswersSigned 64 (value_content self.entry) result }
     {
@@ -151,7 +151,7 @@ impl<'a> Value<'a> {
         }
     }
 
-    /// As `as_i64`, where the number is from -2^31 to 2^31-1; IntegerTooLarge where it isn't.
+    /// As `as_i64`, from -2^31 to 2^31-1.
     pub fn as_i32(self) -> Result<i32, BerError>
         ensures { AnswersSigned 32 (value_content self.entry) result }
     {
@@ -161,10 +161,10 @@ impl<'a> Value<'a> {
         }
     }
 
-    /// The number of an INTEGER or ENUMERATED, or the one that the used bits of a BIT STRING spell,
-    /// the highest first. Errors: IntegerNegative for an INTEGER below 0; InvalidLength for a BIT STRING of
-    /// which more bits are unused than there are; IntegerTooLarge for a number above 2^64-1 and for
-    /// more than 64 used bits; BerTypeError for another value.
+    /// The number of an INTEGER or ENUMERATED, or the used bits of a BIT STRING as a number, the highest first.
+    ///
+    /// Errors: IntegerNegative for an INTEGER below 0; InvalidLength for a BIT STRING with more unused bits than bits;
+    /// IntegerTooLarge for a number above 2^64-1 and for more than 64 used bits; BerTypeError for another value.
     pub fn as_u64(self) -> Result<u64, BerError>
         ensures { AnswersUnsigned 64 (value_content self.entry) result }
     {
@@ -176,7 +176,7 @@ impl<'a> Value<'a> {
         }
     }
 
-    /// As `as_u64`, where the number is at most 2^32-1; IntegerTooLarge above.
+    /// As `as_u64`, from 0 to 2^32-1.
     pub fn as_u32(self) -> Result<u32, BerError>
         ensures { AnswersUnsigned 32 (value_content self.entry) result }
     {

@@ -1,5 +1,5 @@
--- What a visitor does, by relations of its own: `step` of a `Walk`, and of a `Handles` or a `Visit` `object_step` of the
--- function that is called at each object and `content_step` of the function of the content's type.
+-- What a visitor does, by relations of its own: `step` of a `Walk`, and of a `Handles` or a `Visit` `object_step` of
+-- the function that is called at each object and `content_step` of the function of the content's type.
 use Rattle.std.specs.Prelude.{◌≡◌, ℕ, Option, Some, None, List, [], ◌∷◌}
 use Rattle.std.specs.Global.{Box}
 use Rattle.der_base.specs.declared.any.Any.{Any}

@@ -1,4 +1,4 @@
-//! Visitors that read objects, each of whose functions acts.
+//! Visitors that read objects. No function has a default body.
 ghost use Rattle.std.specs.Prelude.{ℕ};
 ghost use Rattle.std.specs.Option.{option_copied};
 ghost use Rattle.der_base.specs.Tree.{Node, Content, end_of_content, boolean, integer, bit_string, string, null};
@@ -14,14 +14,13 @@ use der_base::oid::Oid;
 use der_base::time::ASN1DateTime;
 use der_object::{BerObject, BerObjectContent, BitStringObject};
 
-/// A visitor as [`Visit`](crate::Visit), without default bodies. `walk` of [`Walk`] calls, at an
-/// object and then at each item inside a SEQUENCE or SET, one level deeper, `handle_object` and
-/// after it the function of the content's type. Each has the arguments of `Visit`'s function.
+/// [`Visit`](crate::Visit) without default bodies. `walk` of [`Walk`] visits an object, and then each item inside a
+/// SEQUENCE or SET, one level deeper. It calls `handle_object` and then the function of the content's type. The
+/// functions have the arguments of those of `Visit`.
 ///
-/// `object_step` is what `handle_object` does and `content_step` what the other functions do, each
-/// as a relation of the visitor before, what is visited, its depth and the visitor after. A
-/// function does its step at each call, so the contract of `walk` says which functions are called,
-/// on what and in which order, and leaves none out.
+/// `object_step` is what `handle_object` does, and `content_step` what the other functions do. Each is a relation of
+/// the visitor before, what is visited, its depth and the visitor after. Each call does its step, so the contract of
+/// `walk` says which functions are called, on what and in which order, and leaves none out.
 ///
 /// Each `Visit` is a `Handles`: `handle_null` calls `visit_ber_null`, and so on.
 pub trait Handles {

@@ -1,4 +1,4 @@
-//! Visitors that may change objects, each of whose functions acts.
+//! Visitors that may change objects. No function has a default body.
 ghost use Rattle.std.specs.Prelude.{ℕ, ◌≡◌, ◌≤◌};
 ghost use Rattle.std.specs.Global.{Box};
 ghost use Rattle.der_base.specs.declared.header.Class.{Class};
@@ -21,15 +21,14 @@ use der_base::time::ASN1DateTime;
 use der_object::{BerObject, BerObjectContent, BitStringObject};
 use std::mem;
 
-/// A visitor as [`VisitMut`](crate::VisitMut), without default bodies. `walk_mut` of [`WalkMut`]
-/// calls `handle_object_mut` at an object, then the function of the type that its content has now,
-/// and then does the same at each item that a SEQUENCE or SET has now, one level deeper. Each has
-/// the arguments of `VisitMut`'s function.
+/// [`VisitMut`](crate::VisitMut) without default bodies. At an object, `walk_mut` of [`WalkMut`] calls
+/// `handle_object_mut`, and then the function of the type that its content has now. It does the same at each item that
+/// a SEQUENCE or SET has then, one level deeper. The functions have the arguments of those of `VisitMut`.
 ///
-/// `object_step` is what `handle_object_mut` does and `content_step` what the other functions do,
-/// each as a relation of the visitor before, what is visited, its depth, the visitor after, and
-/// what is visited after. A function does its step at each call, so the contract of `walk_mut` says
-/// which functions are called, on what and in which order, and leaves none out.
+/// `object_step` is what `handle_object_mut` does, and `content_step` what the other functions do. Each is a relation
+/// of the visitor before, what is visited, its depth, the visitor after, and what is visited after. Each call does its
+/// step, so the contract of `walk_mut` says which functions are called, on what and in which order, and leaves none
+/// out.
 ///
 /// Each `VisitMut` is a `HandlesMut`: `handle_null_mut` calls `visit_ber_null_mut`, and so on.
 pub trait HandlesMut {

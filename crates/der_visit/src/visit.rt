@@ -16,18 +16,18 @@ use der_base::oid::Oid;
 use der_base::time::ASN1DateTime;
 use der_object::{BerObject, BitStringObject};
 
-/// A visitor with a function for any object and one for each type of content. `run` calls, at an
-/// object and then at each item inside a SEQUENCE or SET, one level deeper, `visit_ber` and after
-/// it the function of the content's type. Each function has an empty default body.
+/// A visitor with a function for any object and one for each type of content. `run` visits an object, and then each
+/// item inside a SEQUENCE or SET, one level deeper. It calls `visit_ber` and then the function of the content's type.
+/// Each function has an empty default body.
 ///
-/// `object_step` is what `visit_ber` does and `content_step` what the other functions do, each as
-/// a relation of the visitor before, what is visited, its depth and the visitor after. A function
-/// takes the visitor by its relation or leaves it unchanged, as an empty body does.
+/// `object_step` is what `visit_ber` does, and `content_step` what the other functions do. Each is a relation of the
+/// visitor before, what is visited, its depth and the visitor after. A function changes the visitor by its relation or
+/// not at all, as an empty body does.
 ///
-/// So the contract of `run` says where and in which order the visitor may change, and by what. It
-/// allows that a function changes nothing at an object. [`Handles`] has the same functions without
-/// default bodies, and [`Walk`](crate::Walk) has one, so their contracts exclude that. Each `Visit`
-/// is a `Handles`, each `Handles` is a `Walk`, and `run` is that walk.
+/// The contract of `run` says where, in which order and by what the visitor may change. It allows that a function
+/// changes nothing at an object. [`Handles`] has the same functions without default bodies, and [`Walk`](crate::Walk)
+/// has one, so their contracts exclude that. Each `Visit` is a `Handles`, each `Handles` is a `Walk`, and `run` is that
+/// walk.
 pub trait Visit {
     ghost object_step: { Self → Node → ℕ → Self → Type 0 } = { λ _ _ _ _. ⊥ };
 
@@ -168,7 +168,7 @@ pub trait Visit {
         ensures { Quietly content_step self.old (optional_content (option_copied object.entry)) depth self.new }
     {}
 
-    /// An object inside an explicit tag (X.690 8.14). It isn't visited.
+    /// An explicit tag (X.690 8.14). The object inside it isn't visited.
     fn visit_ber_tagged<'t>(&mut self, class: Class, tag: Tag, object: &BerObject<'t>, depth: usize)
         ensures { Quietly content_step self.old (tagged class tag.0 (tree object.now)) depth self.new }
     {}
@@ -199,8 +199,8 @@ pub trait Visit {
     }
 }
 
-/// Each function calls that of its name, which no clause shows, since it may be left empty. A test
-/// shows it (`objects/visits.rows`).
+/// Each function calls the one of its name. No clause says so, since that one may be left empty. A test shows it
+/// (`objects/visits.rows`).
 impl<V: Visit> Handles for V {
     ghost object_step = { Quietly V.object_step };
 

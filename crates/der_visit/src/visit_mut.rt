@@ -15,26 +15,24 @@ use der_base::oid::Oid;
 use der_base::time::ASN1DateTime;
 use der_object::{BerObject, BitStringObject};
 
-/// A visitor that may change what it visits, with a function for any object and one for each type
-/// of content. `run` calls `visit_ber_mut` at an object, then the function of the type that its
-/// content has now, and then does the same at each item that a SEQUENCE or SET has now, one level
-/// deeper. Each function has an empty default body.
+/// A visitor that may change what it visits, with a function for any object and one for each type of content. At an
+/// object, `run` calls `visit_ber_mut`, and then the function of the type that its content has now. It does the same at
+/// each item that a SEQUENCE or SET has then, one level deeper. Each function has an empty default body.
 ///
-/// `object_step` is what `visit_ber_mut` does and `content_step` what the other functions do, each
-/// as a relation of the visitor before, what is visited, its depth, the visitor after, and what is
-/// visited after. A function does what its relation says or changes nothing, as an empty body does.
+/// `object_step` is what `visit_ber_mut` does, and `content_step` what the other functions do. Each is a relation of
+/// the visitor before, what is visited, its depth, the visitor after, and what is visited after. A function does what
+/// its relation says or changes nothing, as an empty body does.
 ///
-/// `visit_ber_mut` may make no object higher, and the functions of SEQUENCE and SET no list, so
-/// each visit ends. The contract of `run` allows that a function changes nothing at an object.
-/// [`HandlesMut`] has the same functions without default bodies, and [`WalkMut`](crate::WalkMut)
-/// has one, so their contracts exclude that. Each `VisitMut` is a `HandlesMut`, each `HandlesMut`
-/// is a `WalkMut`, and `run` is that walk.
+/// `visit_ber_mut` must not make an object deeper, nor the functions of SEQUENCE and SET a list, so each visit ends.
+/// The contract of `run` allows that a function changes nothing at an object. [`HandlesMut`] has the same functions
+/// without default bodies, and [`WalkMut`](crate::WalkMut) has one, so their contracts exclude that. Each `VisitMut` is
+/// a `HandlesMut`, each `HandlesMut` is a `WalkMut`, and `run` is that walk.
 pub trait VisitMut {
     ghost object_step: { Self → Node → ℕ → Self → Node → Type 0 } = { λ _ _ _ _ _. ⊥ };
 
     ghost content_step: { Self → Content → ℕ → Self → Content → Type 0 } = { λ _ _ _ _ _. ⊥ };
 
-    /// Any object, before the function of its content's type. It may become no higher.
+    /// Any object, before the function of its content's type. It must not become deeper.
     fn visit_ber_mut<'t>(&mut self, object: &mut BerObject<'t>, depth: usize)
         ensures step { QuietlyChanges object_step self.old (tree object.old) depth self.new (tree object.new) }
         ensures no_higher { height (tree object.new) ≤ height (tree object.old) }
@@ -169,16 +167,14 @@ pub trait VisitMut {
             self.new (string 28 octets.new.now) }
     {}
 
-    /// SEQUENCE and SEQUENCE OF (8.9, 8.10), before the items.
-    /// The list may become no higher.
+    /// SEQUENCE and SEQUENCE OF (8.9, 8.10), before the items. The list must not become deeper.
     fn visit_ber_sequence_mut<'t>(&mut self, items: &mut Vec<BerObject<'t>>, depth: usize)
         ensures no_higher { list_height (trees items.new.items) ≤ list_height (trees items.old.items) }
         ensures step { QuietlyChanges content_step self.old (sequence (trees items.old.items)) depth
             self.new (sequence (trees items.new.items)) }
     {}
 
-    /// SET and SET OF (8.11, 8.12), before the items.
-    /// The list may become no higher.
+    /// SET and SET OF (8.11, 8.12), before the items. The list must not become deeper.
     fn visit_ber_set_mut<'t>(&mut self, items: &mut Vec<BerObject<'t>>, depth: usize)
         ensures no_higher { list_height (trees items.new.items) ≤ list_height (trees items.old.items) }
         ensures step { QuietlyChanges content_step self.old (set (trees items.old.items)) depth
@@ -203,7 +199,7 @@ pub trait VisitMut {
             self.new (boxed_content object.new) }
     {}
 
-    /// An object inside an explicit tag (X.690 8.14). It isn't visited.
+    /// An explicit tag (X.690 8.14). The object inside it isn't visited.
     fn visit_ber_tagged_mut<'t>(
         &mut self,
         class: &mut Class,
@@ -242,8 +238,8 @@ pub trait VisitMut {
     }
 }
 
-/// Each function calls that of its name, which no clause shows, since it may be left empty. A test
-/// shows it (`objects/visits.rows`).
+/// Each function calls the one of its name. No clause says so, since that one may be left empty. A test shows it
+/// (`objects/visits.rows`).
 impl<V: VisitMut> HandlesMut for V {
     ghost object_step = { QuietlyChanges V.object_step };
 

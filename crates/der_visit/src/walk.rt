@@ -7,15 +7,14 @@ ghost use Rattle.der_visit.specs.Visiting.{TakenThrough};
 
 use der_object::{BerObject, BerObjectContent};
 
-/// A visitor with one function, `visit_object`. `walk` calls it at an object, and then at each
-/// item inside a SEQUENCE or SET, one level deeper, in the order of the encoding.
+/// A visitor with one function, `visit_object`. `walk` calls it at an object, and then at each item inside a SEQUENCE
+/// or SET, one level deeper, in the order of the encoding.
 ///
-/// `step` is what the function does, as a relation of the visitor before, the object, its depth
-/// and the visitor after. The function has no default body, and `walk` takes the visitor through
-/// the whole listing by `step`: it leaves no object out and calls the function once at each.
+/// `step` is what the function does, as a relation of the visitor before, the object, its depth and the visitor after.
+/// The function has no default body, and `walk` does every step: it calls the function once at each object.
 ///
-/// An object inside an explicit tag (`Tagged`) or an `Optional` isn't visited. Each
-/// [`Handles`](crate::Handles), and so each [`Visit`](crate::Visit), is a `Walk`.
+/// An object inside an explicit tag (`Tagged`) or an `Optional` isn't visited. Each [`Handles`](crate::Handles), and so
+/// each [`Visit`](crate::Visit), is a `Walk`.
 pub trait Walk {
     ghost step: { Self → Node → ℕ → Self → Type 0 };
 

@@ -6,21 +6,20 @@ ghost use Rattle.der_visit.specs.Changing.{ChangesObject, ChangesInside, Changes
 
 use der_object::{BerObject, BerObjectContent};
 
-/// A visitor with one function, `visit_object_mut`, which may change the object that it visits.
-/// `walk_mut` calls it at an object, and then at each item that a SEQUENCE or SET has after the
-/// call, one level deeper, in their order and each in its place.
+/// A visitor with one function, `visit_object_mut`, which may change the object that it visits. `walk_mut` calls it at
+/// an object, and then at each item that a SEQUENCE or SET has after the call, one level deeper, in their order. The
+/// items stay at their index.
 ///
-/// `step` is what the function does, as a relation of the visitor before, the object, its depth,
-/// the visitor after and the object after. The function has no default body, and `walk_mut` takes
-/// the visitor and the object through every step: it leaves no object out.
+/// `step` is what the function does, as a relation of the visitor before, the object, its depth, the visitor after and
+/// the object after. The function has no default body, and `walk_mut` does every step: it leaves no object out.
 ///
-/// The function may make no object higher, so each walk ends. An object inside an explicit tag
-/// (`Tagged`) or an `Optional` isn't visited. Each [`HandlesMut`](crate::HandlesMut), and so each
-/// [`VisitMut`](crate::VisitMut), is a `WalkMut`.
+/// The function must not make an object deeper, so each walk ends. An object inside an explicit tag (`Tagged`) or an
+/// `Optional` isn't visited. Each [`HandlesMut`](crate::HandlesMut), and so each [`VisitMut`](crate::VisitMut), is a
+/// `WalkMut`.
 pub trait WalkMut {
     ghost step: { Self → Node → ℕ → Self → Node → Type 0 };
 
-    /// Visits one object. The depth is the number of lists around it. It may become no higher.
+    /// Visits one object. The depth is the number of lists around it. The object must not become deeper.
     fn visit_object_mut<'t>(&mut self, object: &mut BerObject<'t>, depth: usize)
         ensures step { step self.old (tree object.old) depth self.new (tree object.new) }
         ensures no_higher { height (tree object.new) ≤ height (tree object.old) };
@@ -68,7 +67,7 @@ fn walk_content<W: WalkMut>(visitor: &mut W, content: &mut BerObjectContent<'_>,
     }
 }
 
-/// Visits each item at this depth and the items inside it, in their order and each in its place.
+/// Visits each item at this depth and the items inside it, in their order. They stay at their index.
 #[cycle(walk)]
 fn walk_items<W: WalkMut>(visitor: &mut W, items: &mut Vec<BerObject<'_>>, depth: usize)
     ensures { ChangesItems W.step visitor.old (trees items.old.items) depth

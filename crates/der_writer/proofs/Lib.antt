@@ -4,6 +4,7 @@ pub mod BmpStrings
 pub mod ClosingSets
 pub mod Composing
 pub mod Counts
+pub mod FormatsLaws
 pub mod Headers
 pub mod Magnitudes
 pub mod Measuring

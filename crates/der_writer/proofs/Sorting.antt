@@ -12,7 +12,7 @@ use Rattle.std.proofs.Math.Seq.{take-length, drop-length}
 use Rattle.std.proofs.lemmas.List.Folds.{concat-append}
 use Rattle.std.proofs.lemmas.List.Sorted.{IsPermutation-refl, IsPermutation-sym, IsPermutation-trans, IsPermutation-cons, IsPermutation-middle, IsPermutation-append_left}
 use Rattle.der_base.specs.SetOfOrder.{Descends, IsAscending}
-use Rattle.der_laws.proofs.Containers.SetOfOrders.{Greater, greater_descends, descends_greater}
+use Rattle.der_values.proofs.LawsLaws.Containers.SetOfOrders.{Greater, greater_descends, descends_greater}
 use Rattle.der_base.specs.Octets.{identifier, shortest_length}
 use Rattle.der_writer.specs.SetsOf.{IsElement, IsInOrder}
 use Rattle.der_writer.proofs.Headers.{length_some}

@@ -13,7 +13,7 @@ use der_base::error::BerError;
 use der_base::header::Tag;
 
 impl<'b> Writer<'b> {
-    /// A BOOLEAN with a default.
+    /// A BOOLEAN, unless it is the default.
     pub fn put_default_bool(&mut self, value: bool, default: bool)
         ensures { PutsUnless default 1 (λ v. content_octets (boolean v)) value self.old self.new }
     {
@@ -24,7 +24,7 @@ impl<'b> Writer<'b> {
         }
     }
 
-    /// An INTEGER that isn't negative, with a default.
+    /// An INTEGER that isn't negative, unless it is the default.
     pub fn put_default_u64(&mut self, value: u64, default: u64)
         ensures { PutsUnless default 2 shortest_integer value self.old self.new }
     {
@@ -35,7 +35,7 @@ impl<'b> Writer<'b> {
         }
     }
 
-    /// An INTEGER with a default.
+    /// An INTEGER, unless it is the default.
     pub fn put_default_i64(&mut self, value: i64, default: i64)
         ensures { PutsUnless default 2 signed_integer value self.old self.new }
     {
@@ -46,7 +46,7 @@ impl<'b> Writer<'b> {
         }
     }
 
-    /// A BIT STRING of octets whose last bits aren't used, as `put_bits`, with a default of the same form.
+    /// A BIT STRING as `put_bits`, unless it is the default. Unused bits don't count.
     pub fn put_default_bits(&mut self, unused: u8, octets: &[u8], default: (u8, &[u8]))
         ensures { PutsUnless (bit_octets default.entry.0 default.entry.1.now) 3 (λ w. w) (bit_octets unused octets.now)
             self.old self.new }
@@ -58,7 +58,7 @@ impl<'b> Writer<'b> {
         }
     }
 
-    /// An OCTET STRING with a default.
+    /// An OCTET STRING, unless it is the default.
     pub fn put_default_octets(&mut self, octets: &[u8], default: &[u8])
         ensures { PutsUnless default.now 4 (λ w. w) octets.now self.old self.new }
     {
@@ -69,7 +69,7 @@ impl<'b> Writer<'b> {
         }
     }
 
-    /// An OBJECT IDENTIFIER with these content octets and a default.
+    /// An OBJECT IDENTIFIER as `put_oid`, unless it is the default.
     pub fn put_default_oid(&mut self, octets: &[u8], default: &[u8])
         ensures { PutsUnless default.now 6 (λ w. w) octets.now self.old self.new }
     {
@@ -80,7 +80,7 @@ impl<'b> Writer<'b> {
         }
     }
 
-    /// A UTF8String with a default.
+    /// A UTF8String, unless it is the default.
     pub fn put_default_utf8(&mut self, text: &str, default: &str)
         ensures { PutsUnless default.now 12 (λ w. w) text.now self.old self.new }
     {
@@ -91,7 +91,7 @@ impl<'b> Writer<'b> {
         }
     }
 
-    /// A text with these octets, as `put_text`, with a default.
+    /// A text as `put_text`, unless it is the default.
     pub fn put_default_text(
         &mut self,
         tag: Tag,
@@ -110,7 +110,7 @@ impl<'b> Writer<'b> {
     }
 }
 
-/// Whether they are the same bits: those that aren't used don't count.
+/// Whether they are the same bits. Unused bits don't count.
 fn are_same_bits(unused: u8, octets: &[u8], other_unused: u8, other_octets: &[u8]) -> bool
     ensures { IsTrue result ↔ (bit_octets unused octets.now ≡ bit_octets other_unused other_octets.now) }
 {

@@ -16,9 +16,9 @@ use der_base::header::Tag;
 use der_base::rules::Rules;
 use der_base::text::read_text;
 use der_base::time::ASN1DateTime;
-use der_octets::header::{integer_octet_count, write_integer};
-use der_octets::time::{GENERALIZED_YEAR, UTC_YEAR, time_length, write_time};
 use der_values::check_value;
+use der_values::octets::header::{integer_octet_count, write_integer};
+use der_values::octets::time::{GENERALIZED_YEAR, UTC_YEAR, time_length, write_time};
 
 impl<'b> Writer<'b> {
     /// A BOOLEAN (X.690 8.2, 11.1).
@@ -28,7 +28,7 @@ impl<'b> Writer<'b> {
         self.put_octet(Tag::Boolean, if value { 0xff } else { 0 });
     }
 
-    /// An INTEGER with these content octets, in two's complement (8.3). They are the fewest for their number, as
+    /// An INTEGER with these content octets, in two's complement (8.3). The caller proves that they are the fewest, as
     /// `check_fewest_octets` tests.
     pub fn put_integer(&mut self, octets: &[u8])
         requires { IsMinimalInteger octets.now }
@@ -65,7 +65,7 @@ impl<'b> Writer<'b> {
         self.put_signed(Tag::Integer, value);
     }
 
-    /// An INTEGER of any size that isn't negative, with these octets, the highest first. Zeros in front are left out.
+    /// An INTEGER of any size that isn't negative, with these octets, the highest first. Leading zeros aren't put.
     #[tactic(auto, using(crate::proofs::Magnitudes::with_zero, crate::proofs::Magnitudes::without_zero))]
     pub fn put_magnitude(&mut self, octets: &[u8])
         ensures { PutsLeaf 2 (shortest_integer (number octets.now)) self.old self.new }
@@ -119,7 +119,7 @@ impl<'b> Writer<'b> {
         }
     }
 
-    /// A number in the fewest octets, however many.
+    /// A number of any size in the fewest octets.
     #[inline(never)]
     #[tactic(auto, using(crate::proofs::Magnitudes::with_zero, crate::proofs::Magnitudes::without_zero))]
     fn put_large_number(&mut self, tag: Tag, value: u64)
@@ -134,7 +134,7 @@ impl<'b> Writer<'b> {
         }
     }
 
-    /// A BIT STRING (8.6, 11.2) of octets whose last bits aren't used, so many, at most seven. They are put as 0.
+    /// A BIT STRING (8.6, 11.2) of these octets. The last `unused` bits, at most seven, are put as 0.
     pub fn put_bits(&mut self, unused: u8, octets: &[u8])
         ensures { PutsLeaf 3 (bit_octets unused octets.now) self.old self.new }
     {
@@ -165,15 +165,15 @@ impl<'b> Writer<'b> {
         self.put_primitive(Tag::Null, &[]);
     }
 
-    /// An OBJECT IDENTIFIER with these content octets (8.19).
+    /// An OBJECT IDENTIFIER with these content octets (8.19), which aren't checked.
     pub fn put_oid(&mut self, octets: &[u8])
         ensures { PutsLeaf 6 octets.now self.old self.new }
     {
         self.put_primitive(Tag::Oid, octets);
     }
 
-    /// A string type that is kept as a text (8.23), with these octets. StringInvalidCharset if they aren't in its
-    /// character set: then nothing is put.
+    /// A string type that is kept as a text (8.23), with these octets. If they aren't in its character set, nothing is
+    /// put, and the error is StringInvalidCharset.
     pub fn put_text(&mut self, tag: Tag, octets: &[u8]) -> Result<(), BerError>
         requires { IsTrue (is_text_type tag.0) }
         ensures { PutsText tag.0 octets.now self.old result self.new }
@@ -208,8 +208,8 @@ impl<'b> Writer<'b> {
         self.put_text(Tag::Ia5String, text.as_bytes())
     }
 
-    /// A BMPString (8.23.9) of these octets: two for each character, the high one first. StringInvalidCharset if they
-    /// aren't pairs of UTF-16: then nothing is put.
+    /// A BMPString (8.23.9) with these octets: two for each character, the high one first. If they aren't UTF-16,
+    /// nothing is put, and the error is StringInvalidCharset.
     #[tactic(auto, using(crate::proofs::BmpStrings::passes, crate::proofs::BmpStrings::refused))]
     pub fn put_bmp(&mut self, octets: &[u8]) -> Result<(), BerError>
         ensures { PutsBmp octets.now self.old result self.new }
@@ -223,7 +223,7 @@ impl<'b> Writer<'b> {
         }
     }
 
-    /// A UTCTime (11.8).
+    /// A UTCTime (11.8). The fields aren't checked.
     pub fn put_utc_time(&mut self, value: ASN1DateTime)
         ensures { PutsLeaf 23 (content_octets (time 23 value)) self.old self.new }
     {
@@ -232,7 +232,7 @@ impl<'b> Writer<'b> {
         self.put_primitive(Tag::UtcTime, text);
     }
 
-    /// A GeneralizedTime (11.7).
+    /// A GeneralizedTime (11.7). The fields aren't checked.
     pub fn put_generalized_time(&mut self, value: ASN1DateTime)
         ensures { PutsLeaf 24 (content_octets (time 24 value)) self.old self.new }
     {
@@ -242,7 +242,7 @@ impl<'b> Writer<'b> {
     }
 }
 
-/// The octets of a number without the zeros in front.
+/// The octets of a number without leading zeros.
 #[tactic(auto, using(der_base::proofs::Octets::Numbers::octets_from_bytes))]
 fn number_octets(bytes: &[u8; 8], value: u64) -> &[u8]
     requires { bytes.now ≡ to_be_bytes w64 value }
@@ -271,7 +271,7 @@ fn ones_complement(value: i64) -> u64
 }
 
 /// The text of a time.
-#[tactic(auto, using(der_octets::proofs::Room::puts_tail))]
+#[tactic(auto, using(der_values::proofs::OctetsLaws::Room::puts_tail))]
 fn time_octets(room: &mut [u8; 128], year_digits: usize, value: ASN1DateTime) -> &[u8]
     requires { year_digits ≤ 4 }
     ensures { result.now ≡ text_from_year year_digits value }
@@ -290,7 +290,7 @@ fn turn_bits(octets: &mut [u8])
     }
 }
 
-/// The octets of a number without the zeros in front.
+/// The octets of a number without leading zeros.
 fn fewest_octets(given: &[u8]) -> &[u8]
     ensures { result.now ≡ octets (number given.now) }
 {
@@ -304,7 +304,7 @@ fn fewest_octets(given: &[u8]) -> &[u8]
     left
 }
 
-/// Whether a leading 00 octet is needed, since there are no octets or their first bit says that the number is negative
+/// Whether a leading 00 octet is needed: there are no octets, or their first bit would make the number negative
 /// (8.3.3).
 fn needs_zero(octets: &[u8]) -> bool
     ensures { result ≡ needs_zero octets.now }
@@ -315,7 +315,7 @@ fn needs_zero(octets: &[u8]) -> bool
     }
 }
 
-/// An octet with its last bits 0.
+/// An octet whose last bits are set to 0.
 pub(crate) fn clear_bits(octet: u8, count: u8) -> u8
     requires { count ≤ 7 }
     ensures { result ≡ octet - octet % 2 ^ count }

@@ -10,14 +10,14 @@ ghost use Rattle.der_writer.specs.Written.{Puts, PutsArcs, PutsLeaf};
 use crate::writer::{Writer, tag_put};
 use der_base::error::OidParseError;
 use der_base::header::Tag;
-use der_octets::header::write_groups;
 use der_values::ObjectIdentifier;
+use der_values::octets::header::write_groups;
 
-/// The groups of seven bits that a number of 64 bits has at most.
+/// The most groups of seven bits of a number of 64 bits.
 const GROUPS: usize = 10;
 
 impl<'b> Writer<'b> {
-    /// An OBJECT IDENTIFIER (8.19) or a RELATIVE-OID (8.20) with the content octets of the value.
+    /// An OBJECT IDENTIFIER (8.19) or a RELATIVE-OID (8.20) with the content octets of the value, which aren't checked.
     pub fn put_identifier(&mut self, value: ObjectIdentifier<'_>)
         ensures { PutsLeaf (identifier_type value.entry) (identifier_octets value.entry) self.old self.new }
     {
@@ -29,8 +29,9 @@ impl<'b> Writer<'b> {
         self.put_primitive(tag, value.as_bytes());
     }
 
-    /// An OBJECT IDENTIFIER with these arcs (8.19). TooShort for fewer than two; FirstComponentsTooLarge if the first
-    /// is above 2, the second above 39 after 0 or 1, or their subidentifier above 2^64-1: then nothing is put.
+    /// An OBJECT IDENTIFIER with these arcs (8.19). On an error nothing is put: TooShort for fewer than two arcs;
+    /// FirstComponentsTooLarge if the first is above 2, the second is above 39 after 0 or 1, or their subidentifier is
+    /// above 2^64-1.
     pub fn put_arcs(&mut self, arcs: &[u64]) -> Result<(), OidParseError>
         ensures { PutsArcs (octets_of_arcs false arcs.now) self.old result self.new }
     {
@@ -40,7 +41,7 @@ impl<'b> Writer<'b> {
         self.put_absolute(*first, *second, others)
     }
 
-    /// The same of two arcs and others.
+    /// `put_arcs` of two arcs and others.
     fn put_absolute(&mut self, first: u64, second: u64, others: &[u64]) -> Result<(), OidParseError>
         ensures { PutsArcs (octets_of_arcs false (first ∷ second ∷ others.now)) self.old result self.new }
     {
@@ -66,7 +67,7 @@ impl<'b> Writer<'b> {
     }
 
     /// Puts a number as a subidentifier, in the fewest groups of seven bits (8.19.2).
-    #[tactic(auto, using(der_octets::proofs::Groups::groups_few, der_octets::proofs::Room::puts_tail))]
+    #[tactic(auto, using(der_values::proofs::OctetsLaws::Groups::groups_few, der_values::proofs::OctetsLaws::Room::puts_tail))]
     fn put_subidentifier(&mut self, value: u64)
         ensures { Puts (groups value) self.old self.new }
     {

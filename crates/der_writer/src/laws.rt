@@ -2,8 +2,8 @@
 ghost use Rattle.der_writer.specs.Laws.{BitsSpell, ElementsBegin, FieldsSpell, LeavesSpell, NumbersSpell};
 ghost use Rattle.der_writer.specs.Laws.{SequencesSpell, SetsOfSpell, SetsSpell, TaggedSpell};
 
-/// Fields that are DER encodings, closed under SEQUENCE or SET, are the DER encoding of the list of them, and in order
-/// that of a SET OF.
+/// Fields that are DER encodings, closed under SEQUENCE or SET, are the DER encoding of a list of them; in ascending
+/// order, also of a SET OF.
 pub fn fields_spell()
     ensures fields { FieldsSpell }
     ensures sequences { SequencesSpell }
@@ -12,14 +12,14 @@ pub fn fields_spell()
     ensures tagged { TaggedSpell }
 {}
 
-/// A value's element is its DER encoding.
+/// The element of a value is its DER encoding.
 pub fn leaves_spell()
     ensures leaves { LeavesSpell }
     ensures numbers { NumbersSpell }
     ensures bits { BitsSpell }
 {}
 
-/// An element that was put is what a cursor finds.
+/// A cursor finds each element that was put.
 pub fn elements_begin()
     ensures { ElementsBegin }
 {}

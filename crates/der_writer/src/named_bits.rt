@@ -6,7 +6,7 @@ ghost use Rattle.der_writer.specs.Written.{PutsLeaf};
 use crate::writer::Writer;
 
 impl<'b> Writer<'b> {
-    /// A BIT STRING of these octets whose bits have names, as KeyUsage: the bits of 0 at its end aren't put (11.2.2).
+    /// A BIT STRING of these octets whose bits have names, such as KeyUsage. Trailing zero bits aren't put (11.2.2).
     pub fn put_named_bits(&mut self, octets: &[u8])
         ensures { PutsLeaf 3 (named_bits octets.now) self.old self.new }
     {
@@ -15,7 +15,7 @@ impl<'b> Writer<'b> {
     }
 }
 
-/// Octets without those of 0 at their end.
+/// The octets without trailing zeros.
 fn without_last_zeros(given: &[u8]) -> &[u8]
     ensures { result.now ≡ without_last_zeros given.now }
 {

@@ -64,7 +64,7 @@ impl<'b> Writer<'b> {
         }
     }
 
-    /// An OBJECT IDENTIFIER with these content octets, if there is one.
+    /// An OBJECT IDENTIFIER with these content octets, as `put_oid`, if there is one.
     pub fn put_optional_oid(&mut self, octets: Option<&[u8]>)
         ensures { PutsOptional 6 (λ w. w) (option_copied octets.entry) self.old self.new }
     {

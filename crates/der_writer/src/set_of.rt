@@ -5,7 +5,7 @@ ghost use Rattle.der_writer.specs.Inner.Sorting.{Inserts, IsPlaceOf, Measures, S
 use der_base::any::Any;
 use der_base::set_of_order::descends;
 
-/// Sorts the elements between two offsets of a buffer, if it has them.
+/// Sorts the elements between two offsets of a buffer, if it is large enough.
 pub(crate) fn sort_between(out: &mut [u8], begin: usize, end: usize)
     ensures { SortsBetween begin end out.old out.new }
 {
@@ -26,7 +26,7 @@ fn sort_elements(content: &mut [u8])
     }
 }
 
-/// Puts the element at an offset in front of the first greater one of those before it.
+/// Moves the element at an offset before the first greater one of those before it.
 fn insert_last(content: &mut [u8], last: usize)
     requires { last ≤ length content.old }
     ensures { Inserts last content.old content.new }
@@ -35,7 +35,7 @@ fn insert_last(content: &mut [u8], last: usize)
     content[place..].rotate_left(last - place);
 }
 
-/// The place of the first element before an offset that is greater than the one there, or the offset itself.
+/// The offset of the first element before `last` that is greater than the one at `last`; `last` if there is none.
 fn place_of(content: &[u8], last: usize) -> usize
     requires { last ≤ length content.now }
     ensures within { result ≤ last }
@@ -53,7 +53,7 @@ fn place_of(content: &[u8], last: usize) -> usize
     last
 }
 
-/// How many octets the element has that octets begin with, or all if they begin with none.
+/// The size of the element at the start of the octets, or their number if there is none.
 fn element_size(octets: &[u8]) -> usize
     ensures { Measures octets.now result }
 {

@@ -10,15 +10,15 @@ use der_base::time::{ASN1DateTime, ASN1TimeZone};
 /// The first year of a certificate's UTCTime.
 const FIRST_UTC_YEAR: u32 = 1950;
 
-/// The first year of its GeneralizedTime.
+/// The first year of a certificate's GeneralizedTime.
 const FIRST_GENERALIZED_YEAR: u32 = 2050;
 
 /// The last year of four digits.
 const LAST_YEAR: u32 = 9999;
 
 impl<'b> Writer<'b> {
-    /// A time of a certificate: a UTCTime through 2049, a GeneralizedTime from 2050 on. InvalidDateTime if it isn't in
-    /// UTC, in whole seconds, from 1950 to 9999, or no time of a day: then nothing is put.
+    /// A time of a certificate: a UTCTime through 2049, a GeneralizedTime from 2050 on. InvalidDateTime, and nothing is
+    /// put, unless the time is possible, in UTC, in whole seconds, and from 1950 to 9999.
     pub fn put_rfc5280_time(&mut self, value: ASN1DateTime) -> Result<(), BerError>
         ensures { PutsRfc5280Time value self.old result self.new }
     {

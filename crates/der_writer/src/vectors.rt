@@ -1,4 +1,4 @@
-//! Values that are written to memory of their size.
+//! Values that are written to vectors of their size.
 ghost use Rattle.std.specs.Prelude.{◌≡◌, ◌≢◌, ℕ, List, [], IfOk, IfErr, length};
 ghost use Rattle.der_writer.specs.Written.{IsCount, IsPlain, Puts, Wrote};
 
@@ -15,8 +15,7 @@ pub trait Put {
         ensures { IsPlain fields.old → Puts (octets self.now) fields.old fields.new };
 }
 
-/// The octets of a value. They are counted, then memory is taken once, and they are written. An error if there is no
-/// memory.
+/// The octets of a value. They are counted first, so memory is taken once. An error if there is none.
 pub fn to_vec<T: Put>(alloc: Global, value: &T) -> Result<Vec<u8>, AllocError>
     ensures ok { IfOk result (λ v. v.items ≡ T.octets value.now) }
     ensures memory { IfErr result (λ e. T.octets value.now ≢ []) }

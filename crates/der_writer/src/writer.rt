@@ -13,7 +13,7 @@ use crate::element::{
 };
 use crate::set_of::sort_between;
 use der_base::header::{Class, Tag};
-use der_octets::header::{identifier_octet_count, length_octet_count};
+use der_values::octets::header::{identifier_octet_count, length_octet_count};
 
 /// Writes DER field after field into a buffer, from its first octet on. It goes on counting where the buffer is full,
 /// and `finish` returns an error.

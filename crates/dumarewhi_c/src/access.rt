@@ -1,4 +1,4 @@
-//! Calls that read where more about an authority is found (RFC 5280 4.2.2).
+//! Calls that read access to information (RFC 5280 4.2.2).
 ghost use Rattle.std.specs.Prelude.{◌≡◌};
 ghost use Rattle.c_formats.specs.ExtensionLists.{HasItems, IsAccess, descriptions_octets};
 ghost use Rattle.c_formats.specs.Items.{Takes, left};
@@ -17,7 +17,7 @@ use c_values::octets::DmOctets;
 use der_base::error::BerError;
 use der_extensions::{AccessDescription, read_information_access};
 
-/// Reads the descriptions of an AuthorityInfoAccess or a SubjectInfoAccess by DER. Returns the fault's status.
+/// Reads the descriptions of an AuthorityInfoAccess or SubjectInfoAccess by DER. Returns the fault's status.
 #[unsafe(no_mangle)]
 pub extern "C" fn dm_read_information_access<'a>(
     value: &'a [u8],
@@ -32,7 +32,7 @@ pub extern "C" fn dm_read_information_access<'a>(
     fault.status
 }
 
-/// Takes the next description.
+/// Takes the next description. Returns 1, or 0 if there is none.
 #[unsafe(no_mangle)]
 pub extern "C" fn dm_next_access_description<'a>(
     descriptions: &mut DmOctets<'a>,

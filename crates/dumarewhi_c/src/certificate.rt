@@ -2,14 +2,14 @@
 ghost use Rattle.std.specs.Prelude.{◌≡◌};
 ghost use Rattle.c_formats.specs.Certificates.{IsCertificate, certificate_fault, strict_fault};
 ghost use Rattle.c_values.specs.Faults.{Reads};
-ghost use Rattle.der_x509.specs.Certificates.{ReadsCertificate};
-ghost use Rattle.der_x509.specs.Rules.{ReadsStrictly};
+ghost use Rattle.x509.specs.Certificates.{ReadsCertificate};
+ghost use Rattle.x509.specs.Rules.{ReadsStrictly};
 
 use c_formats::certificate::{DmCertificate, certificate_fault, write, write_strict};
 use c_values::fault::DmFault;
-use der_x509::{read_certificate, read_strict_certificate};
+use x509::{read_certificate, read_strict_certificate};
 
-/// Reads a certificate by DER, and nothing after it. Returns the fault's status.
+/// Reads a certificate by DER; trailing data is an error. Returns the fault's status.
 #[unsafe(no_mangle)]
 pub extern "C" fn dm_read_certificate<'a>(
     input: &'a [u8],
@@ -24,7 +24,7 @@ pub extern "C" fn dm_read_certificate<'a>(
     fault.status
 }
 
-/// Reads one that keeps each rule of `Rule` too.
+/// Reads a certificate by DER that keeps each `Rule`; trailing data is an error. Returns the fault's status.
 #[unsafe(no_mangle)]
 pub extern "C" fn dm_read_strict_certificate<'a>(
     input: &'a [u8],

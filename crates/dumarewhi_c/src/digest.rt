@@ -4,11 +4,11 @@ ghost use Rattle.sha2.specs.Sha256.{sha256};
 
 use sha2::{Digest, Sha256};
 
-/// A digest of SHA-256 (FIPS 180-4).
+/// A SHA-256 digest (FIPS 180-4).
 #[repr(C)]
 #[derive(Clone, Copy)]
 pub struct DmDigest {
-    /// Its octets.
+    /// The octets of the digest.
     pub octets: [u8; 32],
 }
 

@@ -1,4 +1,4 @@
-//! Calls that read what else is said of the subject of a certificate (RFC 5280 4.2.1.8).
+//! Calls that read directory attributes of the subject (RFC 5280 4.2.1.8).
 ghost use Rattle.std.specs.Prelude.{◌≡◌};
 ghost use Rattle.c_formats.specs.Directory.{IsAttribute, attributes_octets};
 ghost use Rattle.c_formats.specs.ExtensionLists.{HasItems};
@@ -34,7 +34,7 @@ pub extern "C" fn dm_read_directory_attributes<'a>(
     fault.status
 }
 
-/// Takes the next attribute.
+/// Takes the next attribute. Returns 1, or 0 if there is none.
 #[unsafe(no_mangle)]
 pub extern "C" fn dm_next_directory_attribute<'a>(
     attributes: &mut DmOctets<'a>,

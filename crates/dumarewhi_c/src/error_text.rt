@@ -23,7 +23,7 @@ pub extern "C" fn dm_fault_text(fault: &DmFault, text: &mut [u8]) -> usize
     put_text(text, 0, words_of(fault).as_str().as_bytes())
 }
 
-/// Writes a name of the caller's, a space and the text of a fault. Returns the length.
+/// Writes the caller's name, a space and the text of a fault. Returns the length.
 #[unsafe(no_mangle)]
 pub extern "C" fn dm_named_fault_text(fault: &DmFault, name: &[u8], text: &mut [u8]) -> usize
     ensures { (words : List ℕ) × PutsText text.old 0 (name.now ++ codes " " ++ words) text.new result }
@@ -34,8 +34,8 @@ pub extern "C" fn dm_named_fault_text(fault: &DmFault, name: &[u8], text: &mut [
     put_text(text, end, words.as_str().as_bytes())
 }
 
-/// Writes the text of a fault of this input, and if a tag or a class isn't the expected one, which tag the element has:
-/// ", found [APPLICATION 10]". Returns the length.
+/// Writes the text of a fault of this input. If a tag or a class is unexpected, the tag that was found follows: ",
+/// found [APPLICATION 10]". Returns the length.
 #[unsafe(no_mangle)]
 pub extern "C" fn dm_found_text(fault: &DmFault, input: &[u8], text: &mut [u8]) -> usize
     ensures { (words : List ℕ) × PutsText text.old 0 words text.new result }
@@ -44,8 +44,8 @@ pub extern "C" fn dm_found_text(fault: &DmFault, input: &[u8], text: &mut [u8]) 
     put_text(text, 0, whole.as_str().as_bytes())
 }
 
-/// Writes the name of a universal type, or a tag of another class as ASN.1 writes it, such as [APPLICATION 10]. Returns
-/// its length.
+/// Writes the name of a universal type, or any other tag in the notation of ASN.1, such as [APPLICATION 10]. Returns
+/// the length.
 #[unsafe(no_mangle)]
 pub extern "C" fn dm_tag_text(tag_class: u8, number: u32, text: &mut [u8]) -> usize
     ensures { (words : List ℕ) × PutsText text.old 0 words text.new result }

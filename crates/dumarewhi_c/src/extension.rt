@@ -1,4 +1,4 @@
-//! Calls that read values of extensions (RFC 5280 4.2.1). Each is an input of its own.
+//! Calls that read values of extensions (RFC 5280 4.2.1). Offsets of faults count from the start of a value.
 ghost use Rattle.std.specs.Prelude.{◌≡◌};
 ghost use Rattle.c_formats.specs.ExtensionLists.{HasItems};
 ghost use Rattle.c_formats.specs.ExtensionValues.{IsAuthority, IsConstraints, IsOctets, IsUsage, names_octets};
@@ -23,7 +23,7 @@ use der_extensions::{
     read_general_names, read_key_usage, read_subject_key_identifier,
 };
 
-/// Reads the value of a BasicConstraints by DER. Returns the fault's status.
+/// Reads a BasicConstraints by DER. Returns the fault's status.
 #[unsafe(no_mangle)]
 pub extern "C" fn dm_read_basic_constraints(
     value: &[u8],
@@ -38,7 +38,7 @@ pub extern "C" fn dm_read_basic_constraints(
     fault.status
 }
 
-/// Reads the value of a KeyUsage by DER: the sum of 2^n for each bit n that is 1, from 0 to 8.
+/// Reads a KeyUsage by DER: the sum of 2^n for each bit n that is 1, from 0 to 8. Returns the fault's status.
 #[unsafe(no_mangle)]
 pub extern "C" fn dm_read_key_usage(value: &[u8], usage: &mut u32, fault: &mut DmFault) -> u32
     ensures exactly { Reads (ReadsInput Der UsageFormat usage_of Never value.now) IsUsage value_fault
@@ -49,7 +49,7 @@ pub extern "C" fn dm_read_key_usage(value: &[u8], usage: &mut u32, fault: &mut D
     fault.status
 }
 
-/// Reads the names of a SubjectAltName or an IssuerAltName by DER.
+/// Reads the names of a SubjectAltName or IssuerAltName by DER. Returns the fault's status.
 #[unsafe(no_mangle)]
 pub extern "C" fn dm_read_general_names<'a>(
     value: &'a [u8],
@@ -64,7 +64,7 @@ pub extern "C" fn dm_read_general_names<'a>(
     fault.status
 }
 
-/// Reads the purposes of an ExtendedKeyUsage by DER.
+/// Reads the purposes of an ExtendedKeyUsage by DER. Returns the fault's status.
 #[unsafe(no_mangle)]
 pub extern "C" fn dm_read_extended_key_usage<'a>(
     value: &'a [u8],
@@ -79,7 +79,7 @@ pub extern "C" fn dm_read_extended_key_usage<'a>(
     fault.status
 }
 
-/// Reads the value of a SubjectKeyIdentifier by DER.
+/// Reads a SubjectKeyIdentifier by DER. Returns the fault's status.
 #[unsafe(no_mangle)]
 pub extern "C" fn dm_read_subject_key_identifier<'a>(
     value: &'a [u8],
@@ -94,7 +94,7 @@ pub extern "C" fn dm_read_subject_key_identifier<'a>(
     fault.status
 }
 
-/// Reads the value of an AuthorityKeyIdentifier by DER.
+/// Reads an AuthorityKeyIdentifier by DER. Returns the fault's status.
 #[unsafe(no_mangle)]
 pub extern "C" fn dm_read_authority_key_identifier<'a>(
     value: &'a [u8],

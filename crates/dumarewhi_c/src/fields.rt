@@ -1,4 +1,4 @@
-//! Calls of C that put the value of one type.
+//! Calls that put the value of one type.
 ghost use Rattle.std.specs.Prelude.{[], not, ◌==◌};
 ghost use Rattle.c_values.specs.Writers.{writer_of};
 ghost use Rattle.der_base.specs.Encoding.{content_octets};
@@ -9,7 +9,7 @@ ghost use Rattle.der_writer.specs.Written.{PutsLeaf};
 
 use c_values::state::{DmWriter, implicit_of, resume};
 
-/// A BOOLEAN (X.690 8.2, 11.1), true unless the value is 0.
+/// Puts a BOOLEAN (X.690 8.2, 11.1): FALSE if the value is 0.
 #[unsafe(no_mangle)]
 pub extern "C" fn dm_put_bool(writer: &mut DmWriter<'_>, value: u8)
     ensures { PutsLeaf 1 (content_octets (boolean (not (value == 0)))) (writer_of writer.old) (writer_of writer.new) }
@@ -21,7 +21,7 @@ pub extern "C" fn dm_put_bool(writer: &mut DmWriter<'_>, value: u8)
     writer.implicit = 0;
 }
 
-/// An INTEGER that isn't negative.
+/// Puts an INTEGER that isn't negative.
 #[unsafe(no_mangle)]
 pub extern "C" fn dm_put_u64(writer: &mut DmWriter<'_>, value: u64)
     ensures { PutsLeaf 2 (shortest_integer value) (writer_of writer.old) (writer_of writer.new) }
@@ -33,7 +33,7 @@ pub extern "C" fn dm_put_u64(writer: &mut DmWriter<'_>, value: u64)
     writer.implicit = 0;
 }
 
-/// An INTEGER.
+/// Puts an INTEGER.
 #[unsafe(no_mangle)]
 pub extern "C" fn dm_put_i64(writer: &mut DmWriter<'_>, value: i64)
     ensures { PutsLeaf 2 (signed_integer value) (writer_of writer.old) (writer_of writer.new) }
@@ -45,7 +45,7 @@ pub extern "C" fn dm_put_i64(writer: &mut DmWriter<'_>, value: i64)
     writer.implicit = 0;
 }
 
-/// An INTEGER of any size that isn't negative, with these octets, the highest first. Zeros in front are left out.
+/// Puts an INTEGER of any size that isn't negative, from big-endian octets. Leading zeros are left out.
 #[unsafe(no_mangle)]
 pub extern "C" fn dm_put_magnitude(writer: &mut DmWriter<'_>, octets: &[u8])
     ensures { PutsLeaf 2 (shortest_integer (number octets.now)) (writer_of writer.old) (writer_of writer.new) }
@@ -57,7 +57,7 @@ pub extern "C" fn dm_put_magnitude(writer: &mut DmWriter<'_>, octets: &[u8])
     writer.implicit = 0;
 }
 
-/// An ENUMERATED (8.4) that isn't negative.
+/// Puts an ENUMERATED (X.690 8.4) that isn't negative.
 #[unsafe(no_mangle)]
 pub extern "C" fn dm_put_enumerated(writer: &mut DmWriter<'_>, value: u64)
     ensures { PutsLeaf 10 (content_octets (enumerated value)) (writer_of writer.old) (writer_of writer.new) }
@@ -69,7 +69,7 @@ pub extern "C" fn dm_put_enumerated(writer: &mut DmWriter<'_>, value: u64)
     writer.implicit = 0;
 }
 
-/// An ENUMERATED that may be negative.
+/// Puts an ENUMERATED that may be negative.
 #[unsafe(no_mangle)]
 pub extern "C" fn dm_put_enumerated_i64(writer: &mut DmWriter<'_>, value: i64)
     ensures { PutsLeaf 10 (signed_integer value) (writer_of writer.old) (writer_of writer.new) }
@@ -81,7 +81,7 @@ pub extern "C" fn dm_put_enumerated_i64(writer: &mut DmWriter<'_>, value: i64)
     writer.implicit = 0;
 }
 
-/// A BIT STRING (8.6, 11.2) of octets whose last bits aren't used, so many, at most seven. They are put as 0.
+/// Puts a BIT STRING (X.690 8.6, 11.2). The last `unused` bits, at most seven, aren't used and are put as 0.
 #[unsafe(no_mangle)]
 pub extern "C" fn dm_put_bits(writer: &mut DmWriter<'_>, unused: u8, octets: &[u8])
     ensures { PutsLeaf 3 (bit_octets unused octets.now) (writer_of writer.old) (writer_of writer.new) }
@@ -93,7 +93,7 @@ pub extern "C" fn dm_put_bits(writer: &mut DmWriter<'_>, unused: u8, octets: &[u
     writer.implicit = 0;
 }
 
-/// An OCTET STRING (8.7).
+/// Puts an OCTET STRING (X.690 8.7).
 #[unsafe(no_mangle)]
 pub extern "C" fn dm_put_octets(writer: &mut DmWriter<'_>, octets: &[u8])
     ensures { PutsLeaf 4 octets.now (writer_of writer.old) (writer_of writer.new) }
@@ -105,7 +105,7 @@ pub extern "C" fn dm_put_octets(writer: &mut DmWriter<'_>, octets: &[u8])
     writer.implicit = 0;
 }
 
-/// A NULL (8.8).
+/// Puts a NULL (X.690 8.8).
 #[unsafe(no_mangle)]
 pub extern "C" fn dm_put_null(writer: &mut DmWriter<'_>)
     ensures { PutsLeaf 5 [] (writer_of writer.old) (writer_of writer.new) }
@@ -117,7 +117,7 @@ pub extern "C" fn dm_put_null(writer: &mut DmWriter<'_>)
     writer.implicit = 0;
 }
 
-/// An OBJECT IDENTIFIER with these content octets (8.19).
+/// Puts an OBJECT IDENTIFIER with these content octets (X.690 8.19).
 #[unsafe(no_mangle)]
 pub extern "C" fn dm_put_oid(writer: &mut DmWriter<'_>, octets: &[u8])
     ensures { PutsLeaf 6 octets.now (writer_of writer.old) (writer_of writer.new) }

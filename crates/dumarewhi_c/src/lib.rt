@@ -1,5 +1,5 @@
-//! What C calls: elements, values and errors as numbers. A slice is a pointer and a length there.
-//! `callers/c/include/dumarewhi.h` declares it all.
+//! The C library: elements, values and errors as structs and numbers. A slice is a pointer and a length there.
+//! `callers/c/include/dumarewhi.h` declares all calls.
 #![tactic(auto)]
 
 pub mod access;
@@ -23,6 +23,7 @@ pub mod readers;
 pub mod request;
 pub mod revocation;
 pub mod revoked;
+pub mod rules;
 pub mod subtree;
 pub mod tested;
 pub mod unknown;

@@ -1,5 +1,4 @@
-//! Calls that take items of the lists of a certificate. A call reads the item that the octets begin with, and leaves
-//! the others.
+//! Calls that take items of the lists of a certificate. A call takes the first item from the octets.
 ghost use Rattle.c_formats.specs.Items.{IsAttribute, IsExtension, IsGeneralName, IsPurpose, IsRelativeName, Takes};
 ghost use Rattle.c_formats.specs.Items.{left};
 ghost use Rattle.der_cursor.specs.Formats.{ObjectIdentifier as IdentifierFormat, Required};
@@ -7,8 +6,8 @@ ghost use Rattle.der_extensions.specs.GeneralNames.{AttributeTypeAndValue as Att
 ghost use Rattle.der_extensions.specs.GeneralNames.{RelativeDistinguishedName as RelativeFormat, attribute_of, name_of};
 ghost use Rattle.der_extensions.specs.Lists.{YieldsNext as YieldsItem};
 ghost use Rattle.der_values.specs.Kinds.{borrowed_octets};
-ghost use Rattle.der_x509.specs.Certificates.{extension as extension_format, extension_of};
-ghost use Rattle.der_x509.specs.Lists.{YieldsNext};
+ghost use Rattle.x509.specs.Certificates.{extension as extension_format, extension_of};
+ghost use Rattle.x509.specs.Lists.{YieldsNext};
 
 use c_formats::items::{DmAttribute, DmExtension, DmGeneralName, attribute, extension};
 use c_formats::lists::{
@@ -19,7 +18,7 @@ use c_values::octets::DmOctets;
 use der_base::error::BerError;
 use der_extensions::GeneralName;
 use der_values::ObjectIdentifier;
-use der_x509::{AttributeTypeAndValue, RelativeDistinguishedName};
+use x509::{AttributeTypeAndValue, RelativeDistinguishedName};
 
 /// Takes the next relative name of a name: the encodings of its attributes. Returns 1, or 0 if there is none.
 #[unsafe(no_mangle)]
@@ -36,7 +35,7 @@ pub extern "C" fn dm_next_relative_name<'a>(
     )
 }
 
-/// Takes the next attribute of a relative name.
+/// Takes the next attribute of a relative name. Returns 1, or 0 if there is none.
 #[unsafe(no_mangle)]
 pub extern "C" fn dm_next_attribute<'a>(
     attributes: &mut DmOctets<'a>,
@@ -51,7 +50,7 @@ pub extern "C" fn dm_next_attribute<'a>(
     )
 }
 
-/// Takes the next extension.
+/// Takes the next extension. Returns 1, or 0 if there is none.
 #[unsafe(no_mangle)]
 pub extern "C" fn dm_next_extension<'a>(
     extensions: &mut DmOctets<'a>,
@@ -63,7 +62,7 @@ pub extern "C" fn dm_next_extension<'a>(
     write_extension(next_extension(extensions), extension)
 }
 
-/// Takes the next one of general names.
+/// Takes the next general name. Returns 1, or 0 if there is none.
 #[unsafe(no_mangle)]
 pub extern "C" fn dm_next_general_name<'a>(
     names: &mut DmOctets<'a>,
@@ -75,7 +74,7 @@ pub extern "C" fn dm_next_general_name<'a>(
     write_general_name(next_item::<GeneralName<'a>, BerError>(names), name)
 }
 
-/// Takes the next purpose of a key: the content octets of its identifier.
+/// Takes the next key purpose: the content octets of its OID. Returns 1, or 0 if there is none.
 #[unsafe(no_mangle)]
 pub extern "C" fn dm_next_key_purpose<'a>(
     purposes: &mut DmOctets<'a>,

@@ -1,9 +1,11 @@
-//! Calls that read the next field of a cursor. With another status than 0 the cursor and the value stay.
+//! Calls that read the next field of a cursor. Each returns the fault's status. If it isn't 0, the cursor and the value
+//! stay.
 ghost use Rattle.std.specs.Prelude.{◌≡◌, ◌≤◌, ◌↔◌, Result, pos, true};
 ghost use Rattle.c_values.specs.Cursors.{Continues, IsAny, IsBit, IsBits, IsIdentifier, IsInner, IsNull, IsOctets};
 ghost use Rattle.c_values.specs.Cursors.{IsSame, IsTime, ReadsField, end_fault, exact_bit_strings, rules_in};
 ghost use Rattle.c_values.specs.Writers.{class_of, is_set};
 ghost use Rattle.der_base.specs.declared.error.Error.{Error as BerError};
+ghost use Rattle.der_base.specs.declared.rules.Rules.{Rules};
 ghost use Rattle.der_base.specs.Numbers.{signed, unsigned};
 ghost use Rattle.der_cursor.specs.declared.refusal.Refusal.{Refusal};
 ghost use Rattle.der_cursor.specs.declared.cursor.Cursor.{Cursor};
@@ -13,12 +15,13 @@ ghost use Rattle.der_values.specs.Kinds.{booleans, borrowed_octets, enumerated_n
 ghost use Rattle.der_values.specs.Kinds.{integers, nulls, numbers, octet_strings, times};
 
 use c_values::any::DmAny;
-use c_values::cursor::{DmCursor, finish, resume};
+use c_values::cursor::{DmCursor, finish, resume, resume_enumerated};
 use c_values::element::bit;
 use c_values::fault::DmFault;
 use c_values::next::{
-    end_fault, finish_any, finish_bits, finish_bool, finish_null, finish_octets, finish_oid,
-    finish_opening, finish_time, with_unused_bits_tested,
+    end_fault, exact_enumerated, exact_i64, exact_integer, exact_u64, finish_any, finish_bits,
+    finish_bool, finish_null, finish_octets, finish_oid, finish_opening, finish_time,
+    with_unused_bits_tested,
 };
 use c_values::octets::DmOctets;
 use c_values::parts::DmBits;
@@ -28,7 +31,7 @@ use der_base::error::BerError;
 use der_base::header::Tag;
 use der_cursor::{Cursor, Refusal};
 
-/// A BOOLEAN (X.690 8.2, 11.1), 0 or 1.
+/// Reads a BOOLEAN (X.690 8.2, 11.1) as 0 or 1.
 #[unsafe(no_mangle)]
 pub extern "C" fn dm_next_bool(
     cursor: &mut DmCursor<'_>,
@@ -45,75 +48,75 @@ pub extern "C" fn dm_next_bool(
     fault.status
 }
 
-/// The number of an INTEGER from 0 to 2^64-1 (8.3).
+/// Reads an INTEGER from 0 to 2^64-1 (X.690 8.3). Also in BER its octets must be the fewest (8.3.2).
 #[unsafe(no_mangle)]
 pub extern "C" fn dm_next_u64(
     cursor: &mut DmCursor<'_>,
     value: &mut u64,
     fault: &mut DmFault,
 ) -> u32
-    ensures exactly { ReadsField (ReadsValue pos (numbers (rules_in cursor.old.rules) (unsigned 64)) 2) IsSame
+    ensures exactly { ReadsField (ReadsValue pos (numbers Rules.Der (unsigned 64)) 2) IsSame
         cursor.old cursor.new value.old value.new fault.new }
     ensures status { result ≡ fault.new.status }
 {
     let mut fields = resume(cursor);
-    let found = fields.u64();
+    let found = exact_u64(fields.integer());
     *fault = finish(cursor, fields, found, value);
     fault.status
 }
 
-/// The number of an INTEGER from -2^63 to 2^63-1.
+/// Reads an INTEGER from -2^63 to 2^63-1, as `dm_next_u64`.
 #[unsafe(no_mangle)]
 pub extern "C" fn dm_next_i64(
     cursor: &mut DmCursor<'_>,
     value: &mut i64,
     fault: &mut DmFault,
 ) -> u32
-    ensures exactly { ReadsField (ReadsValue (λ v. v) (numbers (rules_in cursor.old.rules) (signed 64)) 2)
-        IsSame cursor.old cursor.new value.old value.new fault.new }
+    ensures exactly { ReadsField (ReadsValue (λ v. v) (numbers Rules.Der (signed 64)) 2) IsSame
+        cursor.old cursor.new value.old value.new fault.new }
     ensures status { result ≡ fault.new.status }
 {
     let mut fields = resume(cursor);
-    let found = fields.i64();
+    let found = exact_i64(fields.integer());
     *fault = finish(cursor, fields, found, value);
     fault.status
 }
 
-/// The number of an ENUMERATED from 0 to 2^64-1 (8.4).
+/// Reads an ENUMERATED from 0 to 2^64-1 (X.690 8.4), as `dm_next_u64`.
 #[unsafe(no_mangle)]
 pub extern "C" fn dm_next_enumerated(
     cursor: &mut DmCursor<'_>,
     value: &mut u64,
     fault: &mut DmFault,
 ) -> u32
-    ensures exactly { ReadsField (ReadsValue (λ v. v) (enumerated_numbers (rules_in cursor.old.rules)) 10)
-        IsSame cursor.old cursor.new value.old value.new fault.new }
+    ensures exactly { ReadsField (ReadsValue (λ v. v) (enumerated_numbers Rules.Der) 10) IsSame
+        cursor.old cursor.new value.old value.new fault.new }
     ensures status { result ≡ fault.new.status }
 {
-    let mut fields = resume(cursor);
-    let found = fields.enumerated();
+    let mut fields = resume_enumerated(cursor);
+    let found = exact_enumerated(fields.integer());
     *fault = finish(cursor, fields, found, value);
     fault.status
 }
 
-/// The content octets of an INTEGER, in two's complement.
+/// Reads the content octets of an INTEGER, in two's complement. Also in BER they must be the fewest (X.690 8.3.2).
 #[unsafe(no_mangle)]
 pub extern "C" fn dm_next_integer<'a>(
     cursor: &mut DmCursor<'a>,
     octets: &mut DmOctets<'a>,
     fault: &mut DmFault,
 ) -> u32
-    ensures exactly { ReadsField (ReadsValue (λ v. v.now) (integers (rules_in cursor.old.rules)) 2) IsOctets
+    ensures exactly { ReadsField (ReadsValue (λ v. v.now) (integers Rules.Der) 2) IsOctets
         cursor.old cursor.new octets.old octets.new fault.new }
     ensures status { result ≡ fault.new.status }
 {
     let mut fields = resume(cursor);
-    let found = fields.integer();
+    let found = exact_integer(fields.integer());
     *fault = finish_octets(cursor, fields, found, octets);
     fault.status
 }
 
-/// The octets of an OCTET STRING (8.7).
+/// Reads the octets of an OCTET STRING (X.690 8.7).
 #[unsafe(no_mangle)]
 pub extern "C" fn dm_next_octets<'a>(
     cursor: &mut DmCursor<'a>,
@@ -130,7 +133,7 @@ pub extern "C" fn dm_next_octets<'a>(
     fault.status
 }
 
-/// The content octets of an OBJECT IDENTIFIER (8.19). Padded arcs are an error.
+/// Reads the content octets of an OBJECT IDENTIFIER (X.690 8.19). Padded arcs are an error.
 #[unsafe(no_mangle)]
 pub extern "C" fn dm_next_oid<'a>(
     cursor: &mut DmCursor<'a>,
@@ -147,7 +150,7 @@ pub extern "C" fn dm_next_oid<'a>(
     fault.status
 }
 
-/// The bits of a BIT STRING (8.6, 11.2). By BER too at most seven are unused, and none of no octet (8.6.2).
+/// Reads a BIT STRING (X.690 8.6, 11.2). Also in BER at most seven bits are unused, and none of no octets (8.6.2).
 #[unsafe(no_mangle)]
 pub extern "C" fn dm_next_bits<'a>(
     cursor: &mut DmCursor<'a>,
@@ -165,7 +168,7 @@ pub extern "C" fn dm_next_bits<'a>(
     fault.status
 }
 
-/// A cursor over the items of the next element, which has to be a SEQUENCE (8.9).
+/// Opens a SEQUENCE (X.690 8.9): a cursor over its items.
 #[unsafe(no_mangle)]
 pub extern "C" fn dm_next_sequence<'a>(
     cursor: &mut DmCursor<'a>,
@@ -182,7 +185,7 @@ pub extern "C" fn dm_next_sequence<'a>(
     fault.status
 }
 
-/// The same of a SET (8.11).
+/// Opens a SET (X.690 8.11): a cursor over its items.
 #[unsafe(no_mangle)]
 pub extern "C" fn dm_next_set<'a>(
     cursor: &mut DmCursor<'a>,
@@ -199,7 +202,7 @@ pub extern "C" fn dm_next_set<'a>(
     fault.status
 }
 
-/// A cursor over the content of the next element, which has to have this class, constructed bit and tag number.
+/// Opens the next element, which must have this class, constructed bit and tag number: a cursor over its content.
 #[unsafe(no_mangle)]
 pub extern "C" fn dm_next_content<'a>(
     cursor: &mut DmCursor<'a>,
@@ -219,7 +222,7 @@ pub extern "C" fn dm_next_content<'a>(
     fault.status
 }
 
-/// The time of a UTCTime (8.25, 11.8), of a year from 1950 to 2049.
+/// Reads a UTCTime (X.690 8.25, 11.8), with a year from 1950 to 2049.
 #[unsafe(no_mangle)]
 pub extern "C" fn dm_next_utc_time(
     cursor: &mut DmCursor<'_>,
@@ -236,7 +239,7 @@ pub extern "C" fn dm_next_utc_time(
     fault.status
 }
 
-/// The time of a GeneralizedTime (8.25, 11.7).
+/// Reads a GeneralizedTime (X.690 8.25, 11.7).
 #[unsafe(no_mangle)]
 pub extern "C" fn dm_next_generalized_time(
     cursor: &mut DmCursor<'_>,
@@ -253,7 +256,7 @@ pub extern "C" fn dm_next_generalized_time(
     fault.status
 }
 
-/// A NULL (8.8).
+/// Reads a NULL (X.690 8.8).
 #[unsafe(no_mangle)]
 pub extern "C" fn dm_next_null(cursor: &mut DmCursor<'_>, fault: &mut DmFault) -> u32
     ensures exactly { ReadsField (ReadsValue (λ v. v) (nulls (rules_in cursor.old.rules)) 5) IsNull
@@ -266,7 +269,7 @@ pub extern "C" fn dm_next_null(cursor: &mut DmCursor<'_>, fault: &mut DmFault) -
     fault.status
 }
 
-/// An element of any type: its content isn't read.
+/// Reads an element of any type. Its content isn't read.
 #[unsafe(no_mangle)]
 pub extern "C" fn dm_next_any<'a>(
     cursor: &mut DmCursor<'a>,
@@ -282,7 +285,7 @@ pub extern "C" fn dm_next_any<'a>(
     fault.status
 }
 
-/// Whether an element of this class and tag number is next, constructed or not.
+/// Returns 1 if an element of this class and tag number is next, constructed or not, else 0.
 #[unsafe(no_mangle)]
 pub extern "C" fn dm_is_next(cursor: &DmCursor<'_>, tag_class: u8, number: u32) -> u32
     ensures exactly { (result ≡ 1) ↔ IsNext (class_of tag_class) number cursor.now.left.now }
@@ -292,7 +295,7 @@ pub extern "C" fn dm_is_next(cursor: &DmCursor<'_>, tag_class: u8, number: u32) 
     bit(fields.is_next(class_of(tag_class), Tag(number))).into()
 }
 
-/// Ends a list: an error if octets are left over.
+/// Ends a list. Octets left over are an error.
 #[unsafe(no_mangle)]
 pub extern "C" fn dm_end(cursor: &DmCursor<'_>, fault: &mut DmFault) -> u32
     ensures exactly { (c : Cursor) × (found : Result (Unit {0}) (Refusal BerError)) × Continues cursor.now c

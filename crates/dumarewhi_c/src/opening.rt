@@ -1,4 +1,4 @@
-//! Calls that open and close elements, and end what is written.
+//! Calls that open and close elements, and finish the output.
 ghost use Rattle.std.specs.Prelude.{◌≡◌, Result, true, false, ℕ};
 ghost use Rattle.c_values.specs.Writers.{class_of, finished_length, finished_status, is_set, mark_of, writer_of};
 ghost use Rattle.der_base.specs.declared.header.Class.{Class};
@@ -11,7 +11,7 @@ use c_values::state::{DmMark, DmWriter, class_of};
 use der_base::header::{Class, Tag};
 use der_writer::{Mark, Writer};
 
-/// What `dm_finish` returns.
+/// The status of a finished output.
 const FINISHED: u32 = 0;
 
 const NO_ROOM: u32 = 3;
@@ -40,7 +40,7 @@ pub extern "C" fn dm_open_sequence(writer: &mut DmWriter<'_>) -> DmMark
     open(writer, Class::Universal, true, Tag::Sequence)
 }
 
-/// Opens a SET (8.11).
+/// Opens a SET (X.690 8.11).
 #[unsafe(no_mangle)]
 pub extern "C" fn dm_open_set(writer: &mut DmWriter<'_>) -> DmMark
     ensures { Opens Class.Universal true 17 (mark_of result) (writer_of writer.old) (writer_of writer.new) }
@@ -48,7 +48,7 @@ pub extern "C" fn dm_open_set(writer: &mut DmWriter<'_>) -> DmMark
     open(writer, Class::Universal, true, Tag::Set)
 }
 
-/// Opens an OCTET STRING whose octets are elements (8.7).
+/// Opens an OCTET STRING that contains elements (X.690 8.7).
 #[unsafe(no_mangle)]
 pub extern "C" fn dm_open_octet_string(writer: &mut DmWriter<'_>) -> DmMark
     ensures { Opens Class.Universal false 4 (mark_of result) (writer_of writer.old) (writer_of writer.new) }
@@ -56,8 +56,8 @@ pub extern "C" fn dm_open_octet_string(writer: &mut DmWriter<'_>) -> DmMark
     open(writer, Class::Universal, false, Tag::OctetString)
 }
 
-/// Opens an element of the class context-specific: an explicit tag around what is put (8.14.2), or a SEQUENCE or SET
-/// with an implicit tag (8.14.3).
+/// Opens a context-specific element: an explicit tag around what is put (X.690 8.14.2), or a SEQUENCE or SET with an
+/// implicit tag (8.14.3).
 #[unsafe(no_mangle)]
 pub extern "C" fn dm_open_tagged(writer: &mut DmWriter<'_>, number: u32) -> DmMark
     ensures { Opens Class.ContextSpecific true number (mark_of result) (writer_of writer.old) (writer_of writer.new) }
@@ -65,8 +65,8 @@ pub extern "C" fn dm_open_tagged(writer: &mut DmWriter<'_>, number: u32) -> DmMa
     open(writer, Class::ContextSpecific, true, Tag(number))
 }
 
-/// Closes an element. Those that were opened in it have to be closed before: otherwise nothing is closed, and
-/// `dm_finish` returns 4.
+/// Closes an element. Elements opened in it must be closed first; otherwise nothing is closed, and `dm_finish` returns
+/// 4.
 #[unsafe(no_mangle)]
 pub extern "C" fn dm_close(writer: &mut DmWriter<'_>, mark: DmMark)
     ensures { Closes (mark_of mark) (writer_of writer.old) (writer_of writer.new) }
@@ -81,7 +81,7 @@ pub extern "C" fn dm_close(writer: &mut DmWriter<'_>, mark: DmMark)
     writer.implicit = 0;
 }
 
-/// Closes a SET OF, as `dm_close`, and sorts the elements that were put in it (11.6), in the buffer.
+/// Closes a SET OF, as `dm_close`, and sorts its elements in the buffer (X.690 11.6).
 #[unsafe(no_mangle)]
 pub extern "C" fn dm_close_set_of(writer: &mut DmWriter<'_>, mark: DmMark)
     ensures { ClosesSetOf (mark_of mark) (writer_of writer.old) (writer_of writer.new) }
@@ -96,8 +96,8 @@ pub extern "C" fn dm_close_set_of(writer: &mut DmWriter<'_>, mark: DmMark)
     writer.implicit = 0;
 }
 
-/// Puts the next element, which has to be primitive, under an implicit tag (8.14.3): it has this class and number in
-/// place of those of its type.
+/// Gives the next element, which must be primitive, an implicit tag: this class and number instead of its type's (X.690
+/// 8.14.3).
 #[unsafe(no_mangle)]
 pub extern "C" fn dm_implicit(writer: &mut DmWriter<'_>, tag_class: u8, number: u32)
     ensures { IsTagged (class_of tag_class) number (writer_of writer.old) (writer_of writer.new) }
@@ -106,7 +106,7 @@ pub extern "C" fn dm_implicit(writer: &mut DmWriter<'_>, tag_class: u8, number: 
     writer.number = number;
 }
 
-/// Puts octets as they are: elements of DER that were written before.
+/// Puts encoded DER elements as they are.
 #[unsafe(no_mangle)]
 pub extern "C" fn dm_put_elements(writer: &mut DmWriter<'_>, octets: &[u8])
     ensures { Puts octets.now (writer_of writer.old) (writer_of writer.new) }
@@ -117,8 +117,8 @@ pub extern "C" fn dm_put_elements(writer: &mut DmWriter<'_>, octets: &[u8])
     writer.implicit = 0;
 }
 
-/// How many octets there are, at the front of the buffer, and 0. If the buffer has fewer, how many are needed, and 3.
-/// If an element is open, 0 octets, and 4.
+/// Returns 0 and the number of octets, with which the buffer begins. If the buffer is too small: 3 and the number that
+/// is needed. If an element is open: 4 and 0.
 #[unsafe(no_mangle)]
 pub extern "C" fn dm_finish(writer: &DmWriter<'_>, length: &mut usize) -> u32
     ensures { (found : Result ℕ WriteError) × Returns (writer_of writer.now) found

@@ -1,22 +1,22 @@
-//! Calls that read keys beside those of PKCS #8: private ones of elliptic curves (RFC 5915 3), encrypted ones (RFC
-//! 5958 3), and public ones (RFC 5280 4.1.2.7, RFC 8017 A.1.1).
+//! Calls that read keys other than PKCS #8: elliptic private keys (RFC 5915 3), encrypted private keys (RFC 5958 3) and
+//! public keys (RFC 5280 4.1.2.7, RFC 8017 A.1.1).
 ghost use Rattle.std.specs.Prelude.{◌≡◌};
 ghost use Rattle.c_formats.specs.OtherKeys.{IsEcKey, IsEncryptedKey, IsPublicKey, IsRsaPublicKey, ec_fault};
 ghost use Rattle.c_formats.specs.OtherKeys.{encrypted_fault, public_fault, rsa_public_fault};
 ghost use Rattle.c_values.specs.Faults.{Reads};
-ghost use Rattle.der_x509.specs.Readers.{ReadsExactly};
-ghost use Rattle.pkcs8_reader.specs.Fields.{key_fault};
-ghost use Rattle.pkcs8_reader.specs.OtherKeys.{ec_of, encrypted_of, key_info_of, rsa_public_of, whole_ec_key};
-ghost use Rattle.pkcs8_reader.specs.OtherKeys.{whole_encrypted_key, whole_public_key, whole_rsa_public_key};
+ghost use Rattle.x509.specs.Readers.{ReadsExactly};
+ghost use Rattle.x509_keys.specs.Fields.{key_fault};
+ghost use Rattle.x509_keys.specs.OtherKeys.{ec_of, encrypted_of, key_info_of, rsa_public_of, whole_ec_key};
+ghost use Rattle.x509_keys.specs.OtherKeys.{whole_encrypted_key, whole_public_key, whole_rsa_public_key};
 
 use c_formats::other_keys::{
     DmEcPrivateKey, DmEncryptedPrivateKey, DmPublicKey, DmRsaPublicKey, ec_fault, encrypted_fault,
     public_fault, rsa_public_fault, write_ec, write_encrypted, write_public, write_rsa_public,
 };
 use c_values::fault::DmFault;
-use pkcs8_reader::{read_ec_private_key, read_encrypted_key, read_public_key, read_rsa_public_key};
+use x509_keys::{read_ec_private_key, read_encrypted_key, read_public_key, read_rsa_public_key};
 
-/// Reads a private key of a curve by DER, and nothing after it. Returns the fault's status.
+/// Reads an elliptic private key by DER; trailing data is an error. Returns the fault's status.
 #[unsafe(no_mangle)]
 pub extern "C" fn dm_read_ec_private_key<'a>(
     input: &'a [u8],
@@ -31,7 +31,7 @@ pub extern "C" fn dm_read_ec_private_key<'a>(
     fault.status
 }
 
-/// Reads an encrypted private key by DER, and nothing after it. Returns the fault's status.
+/// Reads an encrypted private key by DER; trailing data is an error. Returns the fault's status.
 #[unsafe(no_mangle)]
 pub extern "C" fn dm_read_encrypted_private_key<'a>(
     input: &'a [u8],
@@ -46,7 +46,7 @@ pub extern "C" fn dm_read_encrypted_private_key<'a>(
     fault.status
 }
 
-/// Reads a public key by DER, and nothing after it. Returns the fault's status.
+/// Reads a public key by DER; trailing data is an error. Returns the fault's status.
 #[unsafe(no_mangle)]
 pub extern "C" fn dm_read_public_key<'a>(
     input: &'a [u8],
@@ -61,7 +61,7 @@ pub extern "C" fn dm_read_public_key<'a>(
     fault.status
 }
 
-/// Reads a public key of RSA by DER, and nothing after it. Returns the fault's status.
+/// Reads an RSA public key by DER; trailing data is an error. Returns the fault's status.
 #[unsafe(no_mangle)]
 pub extern "C" fn dm_read_rsa_public_key<'a>(
     input: &'a [u8],

@@ -1,5 +1,5 @@
-//! Calls that read which policies stand for others, and from where on in a path policies are asked for or mapped (RFC
-//! 5280 4.2.1.5, 4.2.1.11, 4.2.1.14).
+//! Calls that read policy mappings, and policy constraints of a certification path (RFC 5280 4.2.1.5, 4.2.1.11,
+//! 4.2.1.14).
 ghost use Rattle.std.specs.Prelude.{◌≡◌, pos};
 ghost use Rattle.c_formats.specs.ExtensionLists.{HasItems};
 ghost use Rattle.c_formats.specs.Items.{Takes, left};
@@ -23,7 +23,7 @@ use der_extensions::{
     PolicyMapping, read_inhibit_any_policy, read_policy_constraints, read_policy_mappings,
 };
 
-/// Reads the pairs of a PolicyMappings by DER. Returns the fault's status.
+/// Reads the mappings of a PolicyMappings by DER. Returns the fault's status.
 #[unsafe(no_mangle)]
 pub extern "C" fn dm_read_policy_mappings<'a>(
     value: &'a [u8],
@@ -38,7 +38,7 @@ pub extern "C" fn dm_read_policy_mappings<'a>(
     fault.status
 }
 
-/// Takes the next pair.
+/// Takes the next mapping. Returns 1, or 0 if there is none.
 #[unsafe(no_mangle)]
 pub extern "C" fn dm_next_policy_mapping<'a>(
     mappings: &mut DmOctets<'a>,
@@ -50,7 +50,7 @@ pub extern "C" fn dm_next_policy_mapping<'a>(
     write_mapping(next_item::<PolicyMapping<'a>, BerError>(mappings), mapping)
 }
 
-/// Reads the value of a PolicyConstraints by DER. Returns the fault's status.
+/// Reads a PolicyConstraints by DER. Returns the fault's status.
 #[unsafe(no_mangle)]
 pub extern "C" fn dm_read_policy_constraints(
     value: &[u8],
@@ -65,8 +65,8 @@ pub extern "C" fn dm_read_policy_constraints(
     fault.status
 }
 
-/// Reads the value of an InhibitAnyPolicy (4.2.1.14) by DER: how many certificates may follow in a path before
-/// anyPolicy no longer counts. Returns the fault's status.
+/// Reads an InhibitAnyPolicy (RFC 5280 4.2.1.14) by DER: how many certificates may follow in a path before anyPolicy no
+/// longer counts. Returns the fault's status.
 #[unsafe(no_mangle)]
 pub extern "C" fn dm_read_inhibit_any_policy(
     value: &[u8],

@@ -1,4 +1,4 @@
-//! Calls that take blocks of PEM (RFC 7468), and decode them in buffers of the caller's.
+//! Calls that find PEM blocks (RFC 7468) and decode them into the caller's buffers.
 ghost use Rattle.std.specs.Borrow.{Bor};
 ghost use Rattle.std.specs.Prelude.{List, Option, Result, length, ℕ};
 ghost use Rattle.c_formats.specs.Items.{Taken};
@@ -12,8 +12,8 @@ use c_values::octets::DmOctets;
 use c_values::pem::{DmPem, take_block};
 use der_input::{Block, FormError, first_begin, next_block};
 
-/// Takes the next block of a text, and decodes it: its characters are written to one buffer, and its octets to the
-/// other. Returns 0, or the number of the error.
+/// Takes the next block of a text and decodes it: `characters` gets its base64 characters, and `octets` its octets.
+/// Returns 0, or the number of the error.
 #[unsafe(no_mangle)]
 pub extern "C" fn dm_next_pem<'a>(
     text: &mut DmOctets<'a>,
@@ -27,7 +27,7 @@ pub extern "C" fn dm_next_pem<'a>(
     take_block(next_block(text.octets), text, characters, octets, block)
 }
 
-/// Where the first block of a text begins. Returns 1, or 0 if there is none.
+/// Finds the offset of the first block of a text. Returns 1, or 0 if there is none.
 #[unsafe(no_mangle)]
 pub extern "C" fn dm_find_pem(text: &[u8], offset: &mut usize) -> u32
     ensures { Taken IsSame (first_begin text.now) offset.old offset.new result }

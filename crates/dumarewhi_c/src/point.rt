@@ -1,4 +1,4 @@
-//! Calls that read where lists of revoked certificates are found (RFC 5280 4.2.1.13).
+//! Calls that read CRL distribution points (RFC 5280 4.2.1.13).
 ghost use Rattle.std.specs.Prelude.{◌≡◌};
 ghost use Rattle.c_formats.specs.ExtensionLists.{HasItems, IsPoint, points_octets};
 ghost use Rattle.c_formats.specs.Items.{Takes, left};
@@ -17,7 +17,7 @@ use c_values::octets::DmOctets;
 use der_base::error::BerError;
 use der_extensions::{DistributionPoint, read_crl_distribution_points};
 
-/// Reads the points of a CRLDistributionPoints or a FreshestCRL (4.2.1.15) by DER. Returns the fault's status.
+/// Reads the points of a CRLDistributionPoints or FreshestCRL (RFC 5280 4.2.1.15) by DER. Returns the fault's status.
 #[unsafe(no_mangle)]
 pub extern "C" fn dm_read_distribution_points<'a>(
     value: &'a [u8],
@@ -32,7 +32,7 @@ pub extern "C" fn dm_read_distribution_points<'a>(
     fault.status
 }
 
-/// Takes the next point.
+/// Takes the next point. Returns 1, or 0 if there is none.
 #[unsafe(no_mangle)]
 pub extern "C" fn dm_next_distribution_point<'a>(
     points: &mut DmOctets<'a>,

@@ -1,4 +1,4 @@
-//! Calls that read the policies by which a certificate was issued (RFC 5280 4.2.1.4).
+//! Calls that read certificate policies (RFC 5280 4.2.1.4).
 ghost use Rattle.std.specs.Prelude.{◌≡◌};
 ghost use Rattle.c_formats.specs.ExtensionLists.{HasItems, IsPolicy, IsQualifier, policies_octets};
 ghost use Rattle.c_formats.specs.Items.{Takes, left};
@@ -33,7 +33,7 @@ pub extern "C" fn dm_read_certificate_policies<'a>(
     fault.status
 }
 
-/// Takes the next policy.
+/// Takes the next policy. Returns 1, or 0 if there is none.
 #[unsafe(no_mangle)]
 pub extern "C" fn dm_next_policy<'a>(policies: &mut DmOctets<'a>, policy: &mut DmPolicy<'a>) -> u32
     ensures { Takes (λ r. YieldsNext left policy_of (Required PolicyFormat) policies.old r policies.new)
@@ -45,7 +45,7 @@ pub extern "C" fn dm_next_policy<'a>(policies: &mut DmOctets<'a>, policy: &mut D
     )
 }
 
-/// Takes the next qualifier of a policy.
+/// Takes the next qualifier of a policy. Returns 1, or 0 if there is none.
 #[unsafe(no_mangle)]
 pub extern "C" fn dm_next_policy_qualifier<'a>(
     qualifiers: &mut DmOctets<'a>,

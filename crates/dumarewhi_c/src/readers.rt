@@ -1,4 +1,4 @@
-//! Calls that read elements of an input, by DER and by BER.
+//! Calls that read elements, by DER or BER.
 ghost use Rattle.std.specs.Prelude.{◌≡◌, min};
 ghost use Rattle.c_values.specs.Outcomes.{Checks, FindsBer, FindsDer, Lists, greatest_depth};
 ghost use Rattle.der_base.specs.declared.rules.Rules.TheVariants.{Ber, Der};
@@ -9,7 +9,7 @@ use c_values::readers::list;
 use der_base::any::Any;
 use der_base::rules::Rules;
 
-/// Lists the first element by DER. Returns the outcome's status.
+/// Reads the first element by DER and lists the elements. Returns the outcome's status.
 #[unsafe(no_mangle)]
 pub extern "C" fn dm_parse_der(
     input: &[u8],
@@ -24,7 +24,7 @@ pub extern "C" fn dm_parse_der(
     outcome.status
 }
 
-/// The same by BER.
+/// Reads the first element by BER and lists the elements. Returns the outcome's status.
 #[unsafe(no_mangle)]
 pub extern "C" fn dm_parse_ber(
     input: &[u8],
@@ -39,7 +39,7 @@ pub extern "C" fn dm_parse_ber(
     outcome.status
 }
 
-/// Reads the first element by DER, and writes none. Returns the outcome's status.
+/// Reads the first element by DER, without a list. Returns the outcome's status.
 #[unsafe(no_mangle)]
 pub extern "C" fn dm_check_der(input: &[u8], max_depth: usize, outcome: &mut DmOutcome) -> u32
     ensures exactly { Checks Der (min max_depth greatest_depth) input.now outcome.new }
@@ -49,7 +49,7 @@ pub extern "C" fn dm_check_der(input: &[u8], max_depth: usize, outcome: &mut DmO
     outcome.status
 }
 
-/// The same by BER.
+/// Reads the first element by BER, without a list. Returns the outcome's status.
 #[unsafe(no_mangle)]
 pub extern "C" fn dm_check_ber(input: &[u8], max_depth: usize, outcome: &mut DmOutcome) -> u32
     ensures exactly { Checks Ber (min max_depth greatest_depth) input.now outcome.new }
@@ -59,8 +59,8 @@ pub extern "C" fn dm_check_ber(input: &[u8], max_depth: usize, outcome: &mut DmO
     outcome.status
 }
 
-/// Finds the first element by DER: its header, as many content octets as this says, and no look into
-/// them. Writes the element as one with no other inside, and returns the outcome's status.
+/// Finds the first element by the DER of its header; its content isn't read. Writes it as an element with none inside.
+/// Returns the outcome's status.
 #[unsafe(no_mangle)]
 pub extern "C" fn dm_first_der(
     input: &[u8],
@@ -74,7 +74,7 @@ pub extern "C" fn dm_first_der(
     outcome.status
 }
 
-/// The same by BER. Inside an indefinite length the headers are read, to find its end.
+/// As `dm_first_der`, by BER. If a length is indefinite, the headers inside are read to find its end.
 #[unsafe(no_mangle)]
 pub extern "C" fn dm_first_ber(
     input: &[u8],

@@ -1,21 +1,21 @@
-//! Calls that read certification requests (RFC 2986 4).
+//! Calls that read CSRs (RFC 2986 4).
 ghost use Rattle.std.specs.Prelude.{◌≡◌};
 ghost use Rattle.c_formats.specs.Items.{Takes, left};
 ghost use Rattle.c_formats.specs.Requests.{IsAttribute, IsExtensions, IsRequest, request_fault};
 ghost use Rattle.c_values.specs.Faults.{Reads, value_fault};
-ghost use Rattle.der_request.specs.Requests.{attribute as attribute_format, attribute_of, extension_request};
-ghost use Rattle.der_request.specs.Requests.{field_fault as request_field_fault, request_of, whole_request};
-ghost use Rattle.der_x509.specs.Lists.{YieldsNext};
-ghost use Rattle.der_x509.specs.Readers.{ReadsExactly, fault_of};
+ghost use Rattle.x509_keys.specs.Request.Requests.{attribute as attribute_format, attribute_of, extension_request};
+ghost use Rattle.x509_keys.specs.Request.Requests.{field_fault as request_field_fault, request_of, whole_request};
+ghost use Rattle.x509.specs.Lists.{YieldsNext};
+ghost use Rattle.x509.specs.Readers.{ReadsExactly, fault_of};
 
 use c_formats::request::{
     DmRequest, DmRequestAttribute, next_attribute, write, write_attribute, write_extensions,
 };
 use c_values::fault::DmFault;
 use c_values::octets::DmOctets;
-use der_request::{Values, read_extension_request, read_request};
+use x509_keys::request::{Values, read_extension_request, read_request};
 
-/// Reads a request by DER, and nothing after it. Returns the fault's status.
+/// Reads a CSR by DER; trailing data is an error. Returns the fault's status.
 #[unsafe(no_mangle)]
 pub extern "C" fn dm_read_request<'a>(
     input: &'a [u8],
@@ -30,7 +30,7 @@ pub extern "C" fn dm_read_request<'a>(
     fault.status
 }
 
-/// Takes the next attribute.
+/// Takes the next attribute. Returns 1, or 0 if there is none.
 #[unsafe(no_mangle)]
 pub extern "C" fn dm_next_request_attribute<'a>(
     attributes: &mut DmOctets<'a>,
@@ -42,7 +42,8 @@ pub extern "C" fn dm_next_request_attribute<'a>(
     write_attribute(next_attribute(attributes), attribute)
 }
 
-/// Reads the values of an attribute `extensionRequest` (RFC 2985 5.4.2): the extensions that are asked for.
+/// Reads the values of an `extensionRequest` attribute (RFC 2985 5.4.2): the requested extensions. Returns the fault's
+/// status.
 #[unsafe(no_mangle)]
 pub extern "C" fn dm_read_extension_request<'a>(
     values: &'a [u8],

@@ -1,4 +1,4 @@
-//! Calls that read values of extensions of lists of revoked certificates and of their entries (RFC 5280 5.2, 5.3).
+//! Calls that read values of extensions of CRLs and of their entries (RFC 5280 5.2, 5.3).
 ghost use Rattle.std.specs.Prelude.{◌≡◌};
 ghost use Rattle.c_formats.specs.ExtensionValues.{IsOctets};
 ghost use Rattle.c_formats.specs.RevokedLists.{IsIssuingPoint};
@@ -15,8 +15,8 @@ use c_values::octets::DmOctets;
 use c_values::time::DmTime;
 use der_extensions::{read_crl_number, read_invalidity_date, read_issuing_distribution_point};
 
-/// Reads the value of a CRLNumber (5.2.3) or of a deltaCRLIndicator (5.2.4) by DER: the content octets of the number.
-/// Returns the fault's status.
+/// Reads a CRLNumber (RFC 5280 5.2.3) or deltaCRLIndicator (5.2.4) by DER: the content octets of the number. Returns
+/// the fault's status.
 #[unsafe(no_mangle)]
 pub extern "C" fn dm_read_crl_number<'a>(
     value: &'a [u8],
@@ -31,7 +31,7 @@ pub extern "C" fn dm_read_crl_number<'a>(
     fault.status
 }
 
-/// Reads the value of an IssuingDistributionPoint by DER. Returns the fault's status.
+/// Reads an IssuingDistributionPoint by DER. Returns the fault's status.
 #[unsafe(no_mangle)]
 pub extern "C" fn dm_read_issuing_distribution_point<'a>(
     value: &'a [u8],
@@ -46,7 +46,7 @@ pub extern "C" fn dm_read_issuing_distribution_point<'a>(
     fault.status
 }
 
-/// Reads the value of an InvalidityDate (5.3.2) by DER. Returns the fault's status.
+/// Reads an InvalidityDate (RFC 5280 5.3.2) by DER. Returns the fault's status.
 #[unsafe(no_mangle)]
 pub extern "C" fn dm_read_invalidity_date(
     value: &[u8],

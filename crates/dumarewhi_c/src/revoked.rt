@@ -1,24 +1,24 @@
-//! Calls that read lists of revoked certificates (RFC 5280 5.1).
+//! Calls that read CRLs (RFC 5280 5.1).
 ghost use Rattle.std.specs.Prelude.{◌≡◌};
 ghost use Rattle.c_formats.specs.Items.{Takes, left};
 ghost use Rattle.c_formats.specs.RevokedLists.{IsList, IsReason, IsRevoked, list_fault};
 ghost use Rattle.c_values.specs.Faults.{Reads, value_fault};
-ghost use Rattle.crl_reader.specs.Lists.{certificate_list_of, field_fault as crl_fault, revoked_certificate};
-ghost use Rattle.crl_reader.specs.Lists.{revoked_of, whole_list};
-ghost use Rattle.crl_reader.specs.Reasons.{CRLReason};
+ghost use Rattle.x509.specs.Crl.Lists.{certificate_list_of, field_fault as crl_fault, revoked_certificate};
+ghost use Rattle.x509.specs.Crl.Lists.{revoked_of, whole_list};
+ghost use Rattle.x509.specs.Crl.Reasons.{CRLReason};
 ghost use Rattle.der_base.specs.declared.rules.Rules.TheVariants.{Der};
 ghost use Rattle.der_cursor.specs.Formats.{Never, ReadsInput};
-ghost use Rattle.der_x509.specs.Lists.{YieldsNext};
-ghost use Rattle.der_x509.specs.Readers.{ReadsExactly};
+ghost use Rattle.x509.specs.Lists.{YieldsNext};
+ghost use Rattle.x509.specs.Readers.{ReadsExactly};
 
 use c_formats::revoked::{
     DmCertificateList, DmRevoked, next_entry, write, write_entry, write_reason,
 };
 use c_values::fault::DmFault;
 use c_values::octets::DmOctets;
-use crl_reader::{read_certificate_list, read_reason};
+use x509::crl::{read_certificate_list, read_reason};
 
-/// Reads a list by DER, and nothing after it. Returns the fault's status.
+/// Reads a CRL by DER; trailing data is an error. Returns the fault's status.
 #[unsafe(no_mangle)]
 pub extern "C" fn dm_read_certificate_list<'a>(
     input: &'a [u8],
@@ -33,7 +33,7 @@ pub extern "C" fn dm_read_certificate_list<'a>(
     fault.status
 }
 
-/// Reads the value of a reason code (5.3.1) by DER: its number. Returns the fault's status.
+/// Reads the number of a reasonCode (RFC 5280 5.3.1) by DER. Returns the fault's status.
 #[unsafe(no_mangle)]
 pub extern "C" fn dm_read_reason(value: &[u8], reason: &mut u32, fault: &mut DmFault) -> u32
     ensures exactly { Reads (ReadsInput Der CRLReason (λ v. v) Never value.now) IsReason value_fault
@@ -44,7 +44,7 @@ pub extern "C" fn dm_read_reason(value: &[u8], reason: &mut u32, fault: &mut DmF
     fault.status
 }
 
-/// Takes the next entry of a list.
+/// Takes the next entry of a CRL. Returns 1, or 0 if there is none.
 #[unsafe(no_mangle)]
 pub extern "C" fn dm_next_revoked<'a>(revoked: &mut DmOctets<'a>, entry: &mut DmRevoked<'a>) -> u32
     ensures { Takes (λ r. YieldsNext left revoked_of revoked_certificate revoked.old r revoked.new)

@@ -1,4 +1,4 @@
-//! Calls that read which names may be in certificates after this one in a path (RFC 5280 4.2.1.10).
+//! Calls that read name constraints (RFC 5280 4.2.1.10).
 ghost use Rattle.std.specs.Prelude.{◌≡◌};
 ghost use Rattle.c_formats.specs.ExtensionLists.{IsNameConstraints, IsSubtree};
 ghost use Rattle.c_formats.specs.Items.{Takes, left};
@@ -17,7 +17,7 @@ use c_values::octets::DmOctets;
 use der_base::error::BerError;
 use der_extensions::{GeneralSubtree, read_name_constraints};
 
-/// Reads the value of a NameConstraints by DER. Returns the fault's status.
+/// Reads a NameConstraints by DER. Returns the fault's status.
 #[unsafe(no_mangle)]
 pub extern "C" fn dm_read_name_constraints<'a>(
     value: &'a [u8],
@@ -32,7 +32,7 @@ pub extern "C" fn dm_read_name_constraints<'a>(
     fault.status
 }
 
-/// Takes the next subtree.
+/// Takes the next subtree. Returns 1, or 0 if there is none.
 #[unsafe(no_mangle)]
 pub extern "C" fn dm_next_subtree<'a>(
     subtrees: &mut DmOctets<'a>,

@@ -1,4 +1,4 @@
-//! Calls that test a value, and put it. Each returns 0, or the number of an error, and then nothing is put.
+//! Calls that test a value and put it. Each returns 0, or the number of an error; then nothing is put.
 ghost use Rattle.std.specs.Prelude.{◌≡◌, Result, false};
 ghost use Rattle.c_values.specs.ErrorNumbers.{number_of_result};
 ghost use Rattle.c_values.specs.Tested.{PutsAnyText, PutsInteger, PutsTime, number_of_arcs};
@@ -15,7 +15,7 @@ use c_values::time::DmTime;
 use der_base::error::{BerError, OidParseError};
 use der_base::header::Tag;
 
-/// An INTEGER with these content octets, in two's complement (X.690 8.3), if they are the fewest for their number.
+/// Puts an INTEGER with these content octets, in two's complement (X.690 8.3), if they are the fewest.
 #[unsafe(no_mangle)]
 pub extern "C" fn dm_put_integer(writer: &mut DmWriter<'_>, octets: &[u8]) -> u32
     ensures { (found : Result (Unit {0}) BerError)
@@ -25,8 +25,8 @@ pub extern "C" fn dm_put_integer(writer: &mut DmWriter<'_>, octets: &[u8]) -> u3
     number_of_result(put_integer(writer, octets))
 }
 
-/// An OBJECT IDENTIFIER with these arcs (8.19): 4 for fewer than two; 2 if the first is above 2, the second above 39
-/// after 0 or 1, or their subidentifier above 2^64-1.
+/// Puts an OBJECT IDENTIFIER with these arcs (X.690 8.19). Error 4: fewer than two arcs. Error 2: the first is above 2,
+/// the second above 39 after 0 or 1, or their subidentifier above 2^64-1.
 #[unsafe(no_mangle)]
 pub extern "C" fn dm_put_arcs(writer: &mut DmWriter<'_>, arcs: &[u64]) -> u32
     ensures { (found : Result (Unit {0}) OidParseError)
@@ -36,7 +36,7 @@ pub extern "C" fn dm_put_arcs(writer: &mut DmWriter<'_>, arcs: &[u64]) -> u32
     number_of_arcs(put_arcs(writer, arcs))
 }
 
-/// A string type that is kept as a text (8.23), or a BMPString, with these octets, if they are in its character set.
+/// Puts a string with these octets (X.690 8.23), if they are in the character set of its type.
 #[unsafe(no_mangle)]
 pub extern "C" fn dm_put_text(writer: &mut DmWriter<'_>, number: u32, octets: &[u8]) -> u32
     ensures { (found : Result (Unit {0}) BerError)
@@ -46,7 +46,7 @@ pub extern "C" fn dm_put_text(writer: &mut DmWriter<'_>, number: u32, octets: &[
     number_of_result(put_text(writer, Tag(number), octets))
 }
 
-/// A UTCTime (23, 11.8) or a GeneralizedTime (24, 11.7), in universal time.
+/// Puts a UTCTime (23, X.690 11.8) or GeneralizedTime (24, 11.7) in universal time, if the type has it.
 #[unsafe(no_mangle)]
 pub extern "C" fn dm_put_time(writer: &mut DmWriter<'_>, number: u32, time: &DmTime) -> u32
     ensures { (found : Result (Unit {0}) BerError)

@@ -1,5 +1,5 @@
-//! Calls that read values of content octets. Each returns 0 and writes the value, or returns the number of an error
-//! and writes nothing.
+//! Calls that read values of content octets. Each returns 0 and writes the value, or returns the number of an error and
+//! writes nothing.
 ghost use Rattle.std.specs.Prelude.{◌≡◌, Result, false};
 ghost use Rattle.std.specs.Option.{option_map};
 ghost use Rattle.c_values.specs.ErrorNumbers.{number_of_result};
@@ -20,7 +20,7 @@ use der_base::header::Tag;
 use der_base::rules::Rules;
 use der_values::{ObjectIdentifier, read_i64, read_u64};
 
-/// The number of an INTEGER, from -2^63 to 2^63-1.
+/// Reads an INTEGER from -2^63 to 2^63-1.
 #[unsafe(no_mangle)]
 pub extern "C" fn dm_read_i64(content: &[u8], value: &mut i64) -> u32
     ensures { Returns (AnswersSigned 64 (integer content.now)) value.old value.new result }
@@ -28,7 +28,7 @@ pub extern "C" fn dm_read_i64(content: &[u8], value: &mut i64) -> u32
     write(read_i64(Rules::Ber, content), value)
 }
 
-/// The number of an INTEGER, from 0 to 2^64-1.
+/// Reads an INTEGER from 0 to 2^64-1.
 #[unsafe(no_mangle)]
 pub extern "C" fn dm_read_u64(content: &[u8], value: &mut u64) -> u32
     ensures { Returns (AnswersUnsigned 64 (integer content.now)) value.old value.new result }
@@ -36,7 +36,7 @@ pub extern "C" fn dm_read_u64(content: &[u8], value: &mut u64) -> u32
     write(read_u64(Rules::Ber, content), value)
 }
 
-/// The value of a BOOLEAN, 0 or 1.
+/// Reads a BOOLEAN as 0 or 1.
 #[unsafe(no_mangle)]
 pub extern "C" fn dm_read_bool(content: &[u8], value: &mut u8) -> u32
     ensures { Returns (AnswersBoolean content.now) value.old value.new result }
@@ -44,8 +44,8 @@ pub extern "C" fn dm_read_bool(content: &[u8], value: &mut u8) -> u32
     write(read_boolean(content), value)
 }
 
-/// Writes the arcs of an OBJECT IDENTIFIER with points between them, and the length of that text. Each
-/// subidentifier is below 2^128.
+/// Writes the arcs of an OBJECT IDENTIFIER in dotted form, and the length of that text. Each subidentifier is below
+/// 2^128.
 #[unsafe(no_mangle)]
 pub extern "C" fn dm_read_oid(content: &[u8], text: &mut [u8], needed: &mut usize) -> u32
     ensures { ReturnsText (option_map dotted (u128_arcs false content.now)) text.old text.new
@@ -61,7 +61,7 @@ pub extern "C" fn dm_read_oid(content: &[u8], text: &mut [u8], needed: &mut usiz
     }
 }
 
-/// Whether the octets are a text of the string type with this tag number.
+/// Returns 0 if the octets are a string of the type with this tag number, else the number of the error.
 #[unsafe(no_mangle)]
 pub extern "C" fn dm_check_text(number: u32, content: &[u8]) -> u32
     ensures { (found : Result (Unit {0}) BerError) × AnswersText number content.now found
@@ -70,7 +70,7 @@ pub extern "C" fn dm_check_text(number: u32, content: &[u8]) -> u32
     number_of_result(check_text(Tag(number), content))
 }
 
-/// The fields of a UTCTime (23) or a GeneralizedTime (24).
+/// Reads the fields of a UTCTime (23) or GeneralizedTime (24).
 #[unsafe(no_mangle)]
 pub extern "C" fn dm_read_time(number: u32, content: &[u8], time: &mut DmTime) -> u32
     ensures { Returns (AnswersTime number content.now) time.old time.new result }

@@ -1,5 +1,5 @@
-//! Calls that read values of extensions of the web: RFC 6962, RFC 7633, RFC 6960, RFC 3739, and the EV Guidelines of the
-//! CA/B Forum.
+//! Calls that read values of extensions of the web: RFC 6962, RFC 7633, RFC 6960, RFC 3739, and the EV Guidelines of
+//! the CA/B Forum.
 ghost use Rattle.std.specs.Prelude.{◌≡◌};
 ghost use Rattle.c_formats.specs.ExtensionValues.{IsOctets};
 ghost use Rattle.c_formats.specs.ExtensionLists.{HasItems};
@@ -26,7 +26,7 @@ use c_values::fault::DmFault;
 use c_values::octets::DmOctets;
 use der_base::error::BerError;
 use der_extensions::{
-    QcStatement, TlsFeature, read_ocsp_no_check, read_organization_identifier, read_qc_statements,
+    QcStatement, TlsFeature, read_null, read_organization_identifier, read_qc_statements,
     read_signed_certificate_timestamps, read_tls_features,
 };
 
@@ -65,7 +65,7 @@ pub extern "C" fn dm_read_null_extension(value: &[u8], fault: &mut DmFault) -> u
     ensures exactly { Reads (ReadsInput Der Null (λ x. x) Never value.now) IsNull value_fault tt tt fault.new }
     ensures status { result ≡ fault.new.status }
 {
-    *fault = null_fault(read_ocsp_no_check(value));
+    *fault = null_fault(read_null(value));
     fault.status
 }
 

@@ -1,13 +1,13 @@
-//! What DER has the values of an input.
-ghost use Rattle.page_texts.specs.Written.{WritesInput};
+//! The calls that write an input as DER, or why DER has no form of it.
+ghost use Rattle.dumarewhi_page.specs.Content.Written.{WritesInput};
 
+use crate::content::fault::Fault;
+use crate::content::room::put;
 use der_canon::canonical_into;
-use der_walk::Reason;
-use page_texts::fault::Fault;
-use page_texts::room::put;
+use der_elements::Reason;
 
-/// Writes the elements of an input as DER writes them, if there is room for them. `needed` is then how many octets they
-/// have, room or not. Returns 0, or 1 if DER doesn't have a value.
+/// Sets `needed` to the size of the input in DER, and writes that if `out` is large enough. Returns 0, or 1 if DER has
+/// no form of the input.
 #[unsafe(no_mangle)]
 pub extern "C" fn page_canonical(input: &[u8], out: &mut [u8], needed: &mut usize) -> u32
     ensures { WritesInput input.now out.old out.new needed.old needed.new result }
@@ -21,7 +21,8 @@ pub extern "C" fn page_canonical(input: &[u8], out: &mut [u8], needed: &mut usiz
     }
 }
 
-/// Writes where and why an input has no DER. Nothing if it has one. The buffer `out` is as that of `page_canonical`.
+/// Writes where and why DER has no form of the input, or nothing if it has one. `out` is a buffer as for
+/// `page_canonical`. Returns the length of the text.
 #[unsafe(no_mangle)]
 pub extern "C" fn page_canonical_fault(input: &[u8], out: &mut [u8], text: &mut [u8]) -> usize {
     match canonical_into(input, out) {

@@ -1,13 +1,13 @@
-//! Calls that read the form of an input, and its octets.
+//! Calls that detect the form of an input and decode it.
 ghost use Rattle.std.specs.Prelude.{length};
-ghost use Rattle.page_texts.specs.Inputs.{AnswersBase64, AnswersBlock, AnswersDigits, AnswersForm, FindsBlock, Found};
+ghost use Rattle.dumarewhi_page.specs.Content.Inputs.{AnswersBase64, AnswersBlock, AnswersDigits, AnswersForm, FindsBlock, Found};
 
+use crate::content::input::{PageBlock, answer, number_of, put_block};
+use crate::content::room::put;
 use der_input::{FormError, decode_base64_into, decode_hex_into, form_of, next_block};
-use page_texts::input::{PageBlock, answer, number_of, put_block};
-use page_texts::room::put;
 
-/// Returns the number of the form of an input: 0 for octets, 1 for PEM, 2 for digits in any notation, 3 for base64. Or
-/// the number of the error, from 10 on.
+/// Returns the form of an input: 0 for octets, 1 for PEM, 2 for digits in any notation, 3 for base64; or the number of
+/// the error, from 10 on.
 #[unsafe(no_mangle)]
 pub extern "C" fn page_form(input: &[u8]) -> u32
     ensures { AnswersForm input.now result }
@@ -15,7 +15,7 @@ pub extern "C" fn page_form(input: &[u8]) -> u32
     number_of(form_of(input))
 }
 
-/// Writes what an input of another kind is, as `a zip file`, and returns the text's length. Nothing for other inputs.
+/// Writes the kind of an input that isn't ASN.1, such as `a zip file`, and returns the length of the text, or 0.
 #[unsafe(no_mangle)]
 pub extern "C" fn page_kind(input: &[u8], text: &mut [u8]) -> usize {
     match form_of(input) {
@@ -24,8 +24,8 @@ pub extern "C" fn page_kind(input: &[u8], text: &mut [u8]) -> usize {
     }
 }
 
-/// Writes the octets of digits, and how many they are. Returns 0, or the number of the error. The digits are written to
-/// `room` first. OutOfMemory if one of the two is too short.
+/// Decodes digits into `octets` and sets `size` to the number of octets. Returns 0, or the number of the error. `room`
+/// takes the digits first. OutOfMemory if a buffer is too short.
 #[unsafe(no_mangle)]
 pub extern "C" fn page_digits(
     input: &[u8],
@@ -38,7 +38,7 @@ pub extern "C" fn page_digits(
     answer(decode_hex_into(input, room, octets), size)
 }
 
-/// Writes the octets of base64, and how many they are, as `page_digits` does.
+/// Decodes base64, as `page_digits` does.
 #[unsafe(no_mangle)]
 pub extern "C" fn page_base64(
     input: &[u8],
@@ -51,8 +51,8 @@ pub extern "C" fn page_base64(
     answer(decode_base64_into(input, room, octets), size)
 }
 
-/// Finds the first block of PEM in a text, and writes its octets, as `page_digits` does. Returns 0, or the number of
-/// the error. A broken block has no octets; the next one is in the rest after its begin.
+/// Finds the first PEM block in a text and decodes it, as `page_digits` does. Returns 0, or the number of the error. If
+/// the block is broken, `rest` is the text after its start, where the next one can be found.
 #[unsafe(no_mangle)]
 pub extern "C" fn page_block<'a>(
     text: &'a [u8],

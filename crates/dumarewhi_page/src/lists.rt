@@ -1,16 +1,16 @@
-//! Calls that list the elements of an input, and say whether it is elements and nothing else.
+//! Calls that list the elements of an input, or test that it is elements alone.
 ghost use Rattle.std.specs.Prelude.{◌≡◌, ◌↔◌};
-ghost use Rattle.der_check.specs.Elements.{AreElements};
-ghost use Rattle.page_texts.specs.Listed.{Lists};
-ghost use Rattle.page_texts.specs.Rules.{rules_numbered};
+ghost use Rattle.der_elements.specs.Check.Elements.{AreElements};
+ghost use Rattle.dumarewhi_page.specs.Content.Listed.{Lists};
+ghost use Rattle.dumarewhi_page.specs.Content.Rules.{rules_numbered};
 
-use der_check::are_elements;
-use der_walk::MAX_DEPTH;
-use page_texts::lists::{PageOutcome, list};
-use page_texts::row::PageRow;
-use page_texts::rules::rules_numbered;
+use crate::content::lists::{PageOutcome, list};
+use crate::content::row::PageRow;
+use crate::content::rules::rules_numbered;
+use der_elements::MAX_DEPTH;
+use der_elements::check::are_elements;
 
-/// Lists the elements of an input in preorder, with those inside strings that hold DER, as far as there is room.
+/// Lists the elements of an input in preorder, with those inside strings that hold DER, as far as the capacity allows.
 #[unsafe(no_mangle)]
 pub extern "C" fn page_list(
     input: &[u8],
@@ -23,7 +23,7 @@ pub extern "C" fn page_list(
     *outcome = list(input, rules_numbered(rules), rows);
 }
 
-/// Whether an input is elements by these rules, one after another, and nothing else: 1 or 0.
+/// Returns 1 if the input is elements of these rules alone, one after another, else 0.
 #[unsafe(no_mangle)]
 pub extern "C" fn page_is_elements(input: &[u8], rules: u32) -> u32
     ensures { (result ≡ 1) ↔ AreElements (rules_numbered rules) 101 input.now }

@@ -1,13 +1,13 @@
-//! Calls that write texts of rows and of errors. Each writes as many octets of the text, in UTF-8, as there is room
-//! for, and returns the text's length.
+//! Calls that write the texts of rows and errors. Each writes the text in UTF-8, as far as the capacity allows, and
+//! returns its length.
+use crate::content::line::Line;
+use crate::content::path::RowPath;
+use crate::content::room::put;
+use crate::content::row::PageRow;
+use crate::content::rules::rules_numbered;
+use crate::content::texts::{limit_numbered, part_numbered, put_refusal};
+use der_elements::Walk;
 use der_print::{Remark, Value};
-use der_walk::Walk;
-use page_texts::line::Line;
-use page_texts::path::RowPath;
-use page_texts::room::put;
-use page_texts::row::PageRow;
-use page_texts::rules::rules_numbered;
-use page_texts::texts::{limit_numbered, part_numbered, put_refusal};
 
 /// Writes the name of a row's type or tag.
 #[unsafe(no_mangle)]
@@ -15,7 +15,7 @@ pub extern "C" fn page_name(row: &PageRow, text: &mut [u8]) -> usize {
     put(text, row.name())
 }
 
-/// Writes the value of a row, after a space. With 0 for `full`, a long one is cut.
+/// Writes the value of a row, after a space. If `full` is 0, a long value is cut.
 #[unsafe(no_mangle)]
 pub extern "C" fn page_value(input: &[u8], row: &PageRow, full: u32, text: &mut [u8]) -> usize {
     let element = row.element(input);
@@ -23,7 +23,7 @@ pub extern "C" fn page_value(input: &[u8], row: &PageRow, full: u32, text: &mut 
     put(text, Value { element, limit })
 }
 
-/// Writes what is said of a value that breaks its type, and nothing of another one.
+/// Writes the remark on a value that breaks its type, or nothing.
 #[unsafe(no_mangle)]
 pub extern "C" fn page_remark(input: &[u8], row: &PageRow, text: &mut [u8]) -> usize {
     match Remark::on(&row.element(input)) {
@@ -32,7 +32,7 @@ pub extern "C" fn page_remark(input: &[u8], row: &PageRow, text: &mut [u8]) -> u
     }
 }
 
-/// Writes the line of a row, as `der tree` prints it. With 0 for `full`, a long value is cut.
+/// Writes the line of a row as `der tree` prints it. If `full` is 0, a long value is cut.
 #[unsafe(no_mangle)]
 pub extern "C" fn page_line(input: &[u8], row: &PageRow, full: u32, text: &mut [u8]) -> usize {
     let element = row.element(input);
@@ -40,14 +40,14 @@ pub extern "C" fn page_line(input: &[u8], row: &PageRow, full: u32, text: &mut [
     put(text, Line { element, limit })
 }
 
-/// Writes the path to the element of a row.
+/// Writes the path to a row's element.
 #[unsafe(no_mangle)]
 pub extern "C" fn page_path(rows: &[PageRow], number: usize, text: &mut [u8]) -> usize {
     put(text, RowPath { rows, number })
 }
 
-/// Writes where and why an input is refused by these rules: the whole sentence for 0, the cause for 1, and the path for
-/// another number. Nothing if no element is refused.
+/// Writes the error of an input by these rules: the whole sentence if `part` is 0, the cause if 1, else the path.
+/// Writes nothing if no element is rejected.
 #[unsafe(no_mangle)]
 pub extern "C" fn page_refusal(input: &[u8], rules: u32, part: u32, text: &mut [u8]) -> usize {
     let mut walk = Walk::new(input, rules_numbered(rules), true).keeping_values();

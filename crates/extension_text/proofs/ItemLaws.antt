@@ -1,7 +1,7 @@
 -- Values of lists, and numbers that aren't negative.
 use Rattle.std.proofs.Common.{◌≡◌, ◌≢◌, ◌∷◌, ◌<◌, [], List, ℕ, None, Option, Some, arith, length, pos, refl, subst}
 use Rattle.std.specs.Option.{option_map}
-use Rattle.name_text.specs.Pieces.{Each, IsTextOf, no_more, one_more}
+use Rattle.extension_text.specs.Names.Pieces.{Each, IsTextOf, no_more, one_more}
 use Rattle.extension_text.specs.Extensions.{natural}
 
 -- texts of what stands for values are texts of the values

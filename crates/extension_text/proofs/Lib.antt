@@ -1,3 +1,3 @@
 pub mod ItemLaws
-pub mod NoticeLaws
+pub mod NamesLaws
 pub mod UnreadLaws

@@ -16,13 +16,13 @@ use Rattle.der_extensions.specs.Lists.{list_octets}
 use Rattle.der_extensions.specs.Revocation.{issuing_point_of}
 use Rattle.der_extensions.specs.Values.{ReadsExtension}
 use Rattle.der_extensions.specs.WebExtensions.{organization_identifier_of, timestamps_octets}
-use Rattle.der_x509.specs.declared.extension.Extension.{Extension}
-use Rattle.der_x509.specs.Certificates.{ExtensionValue as ExtensionFields, extension, extension_of}
-use Rattle.der_x509.specs.Formats.{spells}
-use Rattle.name_text.specs.Identifiers.{IsIdentifier, IsIdentifierLine}
-use Rattle.name_text.specs.Pieces.{Each, Exactly, ◌⨾◌}
-use Rattle.name_text.specs.Values.{line, number_line, octets_line, optional_number}
-use Rattle.name_text.specs.Values.{optional_octets, serial_text, time_line}
+use Rattle.x509.specs.declared.extension.Extension.{Extension}
+use Rattle.x509.specs.Certificates.{ExtensionValue as ExtensionFields, extension, extension_of}
+use Rattle.x509.specs.Formats.{spells}
+use Rattle.extension_text.specs.Names.Identifiers.{IsIdentifier, IsIdentifierLine}
+use Rattle.extension_text.specs.Names.Pieces.{Each, Exactly, ◌⨾◌}
+use Rattle.extension_text.specs.Names.Values.{line, number_line, octets_line, optional_number}
+use Rattle.extension_text.specs.Names.Values.{optional_octets, serial_text, time_line}
 use Rattle.extension_text.specs.GeneralNames.{AreGeneralNames, IsGeneralName}
 use Rattle.extension_text.specs.Points.{ArePoints, IsIssuingPoint}
 use Rattle.extension_text.specs.Policies.{AreMappings, ArePolicies, policy_constraints_text}
@@ -118,6 +118,7 @@ IsValue w (value.SignedCertificateTimestamps x) = AreTimestamps (timestamps_octe
 IsValue w value.PrecertificatePoison = Exactly []
 IsValue w (value.TlsFeatures x) = AreFeatures (list_octets x)
 IsValue w value.OcspNoCheck = Exactly []
+IsValue w value.NoRevAvail = Exactly []
 IsValue w (value.QcStatements x) = AreStatements (list_octets x)
 IsValue w (value.OrganizationIdentifier x) = Exactly (organization_text (organization_identifier_of x))
 IsValue w x = Exactly (octets_line (codes "      Octets: ") w)

@@ -6,10 +6,10 @@ use Rattle.der_base.specs.declared.rules.Rules.TheVariants.{Der}
 use Rattle.der_extensions.specs.GeneralNames.{GeneralName, NameValue, OtherNameValue, directory_name, dns_name}
 use Rattle.der_extensions.specs.GeneralNames.{edi_party_name, ip_address, other_name, registered_id, rfc822_name}
 use Rattle.der_extensions.specs.GeneralNames.{uniform_resource_identifier, x400_address}
-use Rattle.name_text.specs.Identifiers.{IsIdentifier, IsIdentifierLine}
-use Rattle.name_text.specs.Names.{IsNameLine}
-use Rattle.name_text.specs.Pieces.{Each, Exactly, ◌⨾◌}
-use Rattle.name_text.specs.Values.{any_text, hex, octets_line, plain_line}
+use Rattle.extension_text.specs.Names.Identifiers.{IsIdentifier, IsIdentifierLine}
+use Rattle.extension_text.specs.Names.Names.{IsNameLine}
+use Rattle.extension_text.specs.Names.Pieces.{Each, Exactly, ◌⨾◌}
+use Rattle.extension_text.specs.Names.Values.{any_text, hex, octets_line, plain_line}
 
 -- addresses (RFC 791, RFC 4291)
 abbrev pub longer_text : List ℕ → List ℕ

@@ -1,5 +1,6 @@
 pub mod Extensions
 pub mod GeneralNames
+pub mod Names
 pub mod Notices
 pub mod Points
 pub mod Policies

@@ -5,9 +5,9 @@ use Rattle.der_cursor.specs.Formats.{Required}
 use Rattle.der_extensions.specs.Extensions.{DistributionPoint, PointNameValue, PointValue, full_name}
 use Rattle.der_extensions.specs.Extensions.{name_relative_to_issuer}
 use Rattle.der_extensions.specs.Revocation.{IssuingPointValue}
-use Rattle.name_text.specs.Names.{IsRelativeName}
-use Rattle.name_text.specs.Pieces.{Each, Exactly, ◌⨾◌}
-use Rattle.name_text.specs.Values.{true_line}
+use Rattle.extension_text.specs.Names.Names.{IsRelativeName}
+use Rattle.extension_text.specs.Names.Pieces.{Each, Exactly, ◌⨾◌}
+use Rattle.extension_text.specs.Names.Values.{true_line}
 use Rattle.extension_text.specs.GeneralNames.{AreGeneralNames}
 use Rattle.extension_text.specs.Usage.{reasons_text}
 

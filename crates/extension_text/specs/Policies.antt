@@ -5,9 +5,9 @@ use Rattle.der_cursor.specs.Formats.{Required}
 use Rattle.der_extensions.specs.declared.policy_constraints.PolicyConstraints.{PolicyConstraints}
 use Rattle.der_extensions.specs.Extensions.{PolicyInformation, PolicyQualifierInfo, PolicyValue, QualifierValue}
 use Rattle.der_extensions.specs.PolicyExtensions.{MappingValue, PolicyMapping}
-use Rattle.name_text.specs.Identifiers.{IsIdentifier, IsIdentifierLine}
-use Rattle.name_text.specs.Pieces.{Each, Exactly, ◌⨾◌}
-use Rattle.name_text.specs.Values.{optional_number}
+use Rattle.extension_text.specs.Names.Identifiers.{IsIdentifier, IsIdentifierLine}
+use Rattle.extension_text.specs.Names.Pieces.{Each, Exactly, ◌⨾◌}
+use Rattle.extension_text.specs.Names.Values.{optional_number}
 use Rattle.extension_text.specs.Notices.{IsDetail}
 
 -- CertificatePolicies (4.2.1.4)

@@ -4,11 +4,11 @@ use Rattle.std.specs.Prelude.{slice_index, slice_range}
 use Rattle.std.specs.Int.{from_be_bytes, w64}
 use Rattle.der_base.specs.declared.rules.Rules.TheVariants.{Der}
 use Rattle.der_extensions.specs.WebExtensions.{Vector}
-use Rattle.name_text.specs.Pieces.{Each, Exactly}
-use Rattle.name_text.specs.Values.{line, octets_line}
+use Rattle.extension_text.specs.Names.Pieces.{Each, Exactly}
+use Rattle.extension_text.specs.Names.Values.{line, octets_line}
 
--- A SignedCertificateTimestamp of version v1, which is 0, has the identifier of its log in 32 octets, and then its time,
--- a number of 8 octets.
+-- A SignedCertificateTimestamp of version v1, which is 0, has the identifier of its log in 32 octets, and then its
+-- time, a number of 8 octets.
 abbrev pub is_v1 : List ℕ → Bool
 is_v1 w = nat_le 41 (length w) && (slice_index w 0 == 0)
 

@@ -7,9 +7,9 @@ use Rattle.der_cursor.specs.declared.refusal.Refusal.{Refusal}
 use Rattle.der_cursor.specs.Elements.{Element}
 use Rattle.der_cursor.specs.Formats.{AnyElement}
 use Rattle.der_extensions.specs.Lists.{BeginsWithNone}
-use Rattle.der_walk.specs.declared.name.TypeName.{TypeName}
-use Rattle.name_text.specs.Pieces.{Exactly, ◌⨾◌}
-use Rattle.name_text.specs.Values.{IsLineOf, octets_line}
+use Rattle.der_elements.specs.declared.name.TypeName.{TypeName}
+use Rattle.extension_text.specs.Names.Pieces.{Exactly, ◌⨾◌}
+use Rattle.extension_text.specs.Names.Values.{IsLineOf, octets_line}
 use Rattle.extension_text.specs.declared.why.Why.{Why}
 use Rattle.extension_text.specs.declared.why.Why.TheVariants.{AsRead, Default, Empty, LastBit}
 use Rattle.extension_text.specs.Why.{error_text, why_of}

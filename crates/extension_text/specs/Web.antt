@@ -4,9 +4,9 @@ use Rattle.der_base.specs.declared.rules.Rules.TheVariants.{Der}
 use Rattle.der_cursor.specs.Formats.{AnyElement, Element, Required}
 use Rattle.der_extensions.specs.PolicyExtensions.{DirectoryAttribute, DirectoryAttributeValue}
 use Rattle.der_extensions.specs.WebExtensions.{Feature, OrganizationValue, QCStatement, StatementValue}
-use Rattle.name_text.specs.Identifiers.{IsIdentifierLine}
-use Rattle.name_text.specs.Pieces.{Each, Exactly, ◌⨾◌}
-use Rattle.name_text.specs.Values.{any_text, line, optional_any, optional_plain, plain_line}
+use Rattle.extension_text.specs.Names.Identifiers.{IsIdentifierLine}
+use Rattle.extension_text.specs.Names.Pieces.{Each, Exactly, ◌⨾◌}
+use Rattle.extension_text.specs.Names.Values.{any_text, line, optional_any, optional_plain, plain_line}
 
 -- SubjectDirectoryAttributes (RFC 5280 4.2.1.8)
 abbrev pub IsAttributeValue : Element → List ℕ → Type 0

@@ -6,9 +6,9 @@ use Rattle.der_base.specs.declared.error.Error.{Error as BerError}
 use Rattle.der_base.specs.declared.error.Error.TheVariants.{BerValueError, UnexpectedClass, UnexpectedTag}
 use Rattle.der_cursor.specs.declared.refusal.Refusal.{Refusal}
 use Rattle.der_cursor.specs.Cursors.{is_at_end, refusal_text}
-use Rattle.der_walk.specs.declared.name.TypeName.{TypeName}
-use Rattle.der_walk.specs.TypeNames.{type_text}
-use Rattle.name_text.specs.Values.{is_universal}
+use Rattle.der_elements.specs.declared.name.TypeName.{TypeName}
+use Rattle.der_elements.specs.TypeNames.{type_text}
+use Rattle.extension_text.specs.Names.Values.{is_universal}
 use Rattle.extension_text.specs.declared.why.Why.{Why}
 use Rattle.extension_text.specs.declared.why.Why.TheVariants.{AsRead, Default, Empty, LastBit, Unexpected}
 

@@ -1,4 +1,4 @@
-//! Which key signed a certificate, and whether its subject is an authority (RFC 5280 4.2.1.1, 4.2.1.9).
+//! authorityKeyIdentifier and basicConstraints (RFC 5280 4.2.1.1, 4.2.1.9).
 ghost use Rattle.std.specs.Option.{option_map};
 ghost use Rattle.std.specs.Prelude.{◌≡◌, Some};
 ghost use Rattle.std.specs.Fmt.{DisplaysOnOk};
@@ -10,9 +10,9 @@ ghost use Rattle.extension_text.specs.Extensions.{AreIssuerNames, IsAuthority, c
 ghost use Rattle.extension_text.specs.Extensions.{optional_serial};
 
 use crate::general_name::write_general_names;
+use crate::names::lines::{write_optional_number, write_optional_octets};
+use crate::names::serial::Serial;
 use der_extensions::{AuthorityKeyIdentifier, BasicConstraints, GeneralNames};
-use name_text::lines::{write_optional_number, write_optional_octets};
-use name_text::serial::Serial;
 use std::fmt;
 
 /// Writes a BasicConstraints.
@@ -44,7 +44,7 @@ pub(crate) fn write_authority<W: fmt::Write>(
     write_optional_serial(f, authority.authority_cert_serial_number)
 }
 
-/// Writes the names of the issuer's issuer, if there are any.
+/// Writes authorityCertIssuer, the issuer of the issuer's certificate, if it is there.
 fn write_issuer_names<W: fmt::Write>(
     f: &mut fmt::Formatter<W>,
     names: &Option<GeneralNames<'_>>,

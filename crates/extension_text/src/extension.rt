@@ -1,16 +1,16 @@
 //! Extensions (RFC 5280 4.2).
 ghost use Rattle.std.specs.Prelude.{◌≡◌};
 ghost use Rattle.der_print.specs.Writes.{WritesOne};
-ghost use Rattle.der_x509.specs.Certificates.{extension_of};
+ghost use Rattle.x509.specs.Certificates.{extension_of};
 ghost use Rattle.extension_text.specs.Extensions.{AreExtensions, IsExtension, IsExtensionList, IsHeading};
 ghost use Rattle.extension_text.specs.Extensions.{critical_text};
 
+use crate::names::identifier::write_identifier;
 use crate::value::write_extension_value;
-use der_x509::{Extension, Extensions};
-use name_text::identifier::write_identifier;
 use std::fmt;
+use x509::{Extension, Extensions};
 
-/// Writes extensions after a heading, and nothing if there are none.
+/// Writes extensions after a heading; nothing if there are none.
 pub fn write_extensions<W: fmt::Write>(
     f: &mut fmt::Formatter<W>,
     heading: &str,
@@ -46,7 +46,7 @@ fn write_extension<W: fmt::Write>(
     write_extension_value(f, extension)
 }
 
-/// Writes which extension it is, and whether it is critical, so far in.
+/// Writes the identifier of an extension and whether it is critical, with an indentation.
 pub fn write_heading<W: fmt::Write>(
     f: &mut fmt::Formatter<W>,
     indent: &str,
@@ -60,7 +60,7 @@ pub fn write_heading<W: fmt::Write>(
     write!(f, "{}\n", critical_word(extension.critical))
 }
 
-/// What is said of a critical extension.
+/// The remark on a critical extension.
 fn critical_word(critical: bool) -> &'static str
     ensures { result.now ≡ critical_text critical }
 {

@@ -7,14 +7,14 @@ ghost use Rattle.extension_text.specs.GeneralNames.{AreGeneralNames, IsGeneralNa
 ghost use Rattle.extension_text.specs.GeneralNames.{address_line};
 
 use crate::address::write_address;
+use crate::names::element::AnyValue;
+use crate::names::identifier::{write_identifier, write_identifier_line};
+use crate::names::lines::{write_octets, write_plain};
+use crate::names::name::write_name_line;
 use der_extensions::{GeneralName, GeneralNames, OtherName};
-use name_text::element::AnyValue;
-use name_text::identifier::{write_identifier, write_identifier_line};
-use name_text::lines::{write_octets, write_plain};
-use name_text::name::write_name_line;
 use std::fmt;
 
-/// Writes a line for each of some names, so far in.
+/// Writes a line for each name, with an indentation.
 pub fn write_general_names<W: fmt::Write>(
     f: &mut fmt::Formatter<W>,
     indent: &str,
@@ -41,7 +41,7 @@ pub(crate) fn write_general_name<W: fmt::Write>(
     write_by_kind(f, name)
 }
 
-/// Writes the line of a name from its kind on.
+/// Writes the line of a name after the indentation.
 fn write_by_kind<W: fmt::Write>(f: &mut fmt::Formatter<W>, name: &GeneralName<'_>) -> fmt::Result
     ensures { WritesOne W.Write.write_str_gives f.old result (IsNameByKind (name_of name.now)) f.new }
 {
@@ -60,7 +60,7 @@ fn write_by_kind<W: fmt::Write>(f: &mut fmt::Formatter<W>, name: &GeneralName<'_
     }
 }
 
-/// Writes a name of a kind that its identifier says.
+/// Writes an otherName.
 fn write_other_name<W: fmt::Write>(f: &mut fmt::Formatter<W>, name: &OtherName<'_>) -> fmt::Result
     ensures { WritesOne W.Write.write_str_gives f.old result (IsOtherName (other_name_of name.now)) f.new }
 {
@@ -70,7 +70,7 @@ fn write_other_name<W: fmt::Write>(f: &mut fmt::Formatter<W>, name: &OtherName<'
     write!(f, ", {}\n", AnyValue { element })
 }
 
-/// Writes a line of an address.
+/// Writes a line with an IP address.
 fn write_address_line<W: fmt::Write>(f: &mut fmt::Formatter<W>, octets: &[u8]) -> fmt::Result
     ensures { DisplaysOnOk W.Write.write_str_gives f.old result (Some (address_line octets.now)) f.new }
 {

@@ -1,7 +1,7 @@
-//! Lists of values of one type, kept as their octets.
+//! Lists of values of one type, as their octets.
 ghost use Rattle.der_base.specs.declared.rules.Rules.{Rules};
 ghost use Rattle.der_print.specs.Writes.{WritesOne};
-ghost use Rattle.name_text.specs.Pieces.{Each, IsTextOf};
+ghost use Rattle.extension_text.specs.Names.Pieces.{Each, IsTextOf};
 
 use der_base::error::BerError;
 use der_extensions::{Item, SequenceOf};
@@ -12,10 +12,10 @@ pub(crate) trait InWords {
     ghost use Rattle.std.specs.Prelude.{List, ℕ};
     ghost use Rattle.der_print.specs.Writes.{WritesOne};
 
-    // Which texts are right of it.
+    // The texts that are right for it.
     ghost IsText: { Self → List ℕ → Type 0 };
 
-    /// Writes its lines.
+    /// Writes the lines of the value.
     fn write<W: fmt::Write>(&self, f: &mut fmt::Formatter<W>) -> fmt::Result
         ensures { WritesOne W.Write.write_str_gives f.old result (IsText self.now) f.new };
 }

@@ -1,5 +1,5 @@
-//! Extensions in words (RFC 5280 4.2): a line for each field of their values, and why a value isn't of its type.
-//! No call takes memory.
+//! Summaries of extensions (RFC 5280 4.2): a line for each field of a value, or the error of a value of another type.
+//! `names` has distinguished names as text. Nothing allocates.
 #![tactic(auto)]
 
 mod address;
@@ -8,6 +8,7 @@ pub mod extension;
 pub mod general_name;
 mod items;
 mod lists;
+pub mod names;
 mod notice;
 mod points;
 mod policies;

@@ -1,4 +1,4 @@
-//! Extensions that are lists: purposes, access, subtrees of names (RFC 5280 4.2).
+//! Extensions that are lists: purposes, access, name constraints (RFC 5280 4.2).
 ghost use Rattle.std.specs.Option.{option_map};
 ghost use Rattle.std.specs.Prelude.{Some};
 ghost use Rattle.std.specs.Fmt.{DisplaysOnOk};
@@ -10,10 +10,10 @@ ghost use Rattle.extension_text.specs.Extensions.{minimum_text};
 
 use crate::general_name::write_general_name;
 use crate::items::{InWords, write_items};
+use crate::names::identifier::write_identifier_line;
+use crate::names::lines::write_optional_number;
 use der_extensions::{AccessDescription, GeneralSubtree, NameConstraints, SequenceOf};
 use der_values::ObjectIdentifier;
-use name_text::identifier::write_identifier_line;
-use name_text::lines::write_optional_number;
 use std::fmt;
 
 impl InWords for ObjectIdentifier<'_> {
@@ -39,7 +39,7 @@ impl InWords for AccessDescription<'_> {
     }
 }
 
-/// Writes which names an authority may certify.
+/// Writes the names that a CA may certify.
 pub(crate) fn write_name_constraints<W: fmt::Write>(
     f: &mut fmt::Formatter<W>,
     constraints: &NameConstraints<'_>,
@@ -80,7 +80,7 @@ impl InWords for GeneralSubtree<'_> {
     }
 }
 
-/// Writes the distances of names from the base, but for those that each certificate has.
+/// Writes the minimum and the maximum of a subtree, unless they have their default.
 fn write_distances<W: fmt::Write>(
     f: &mut fmt::Formatter<W>,
     minimum: u32,

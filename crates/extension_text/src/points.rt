@@ -1,4 +1,4 @@
-//! Where lists of revoked certificates are (RFC 5280 4.2.1.13), and what one is about (5.2.5).
+//! CRL distribution points (RFC 5280 4.2.1.13), and the scope of a CRL (5.2.5).
 ghost use Rattle.std.specs.Option.{option_map};
 ghost use Rattle.std.specs.Prelude.{Some};
 ghost use Rattle.std.specs.Fmt.{DisplaysOnOk};
@@ -6,21 +6,21 @@ ghost use Rattle.der_extensions.specs.Extensions.{point_name_of};
 ghost use Rattle.der_extensions.specs.Lists.{list_octets};
 ghost use Rattle.der_extensions.specs.Revocation.{issuing_point_of};
 ghost use Rattle.der_print.specs.Writes.{WritesOne};
-ghost use Rattle.der_x509.specs.Certificates.{bits_of};
+ghost use Rattle.x509.specs.Certificates.{bits_of};
 ghost use Rattle.extension_text.specs.Points.{AreOptionalNames, IsIssuingName, IsIssuingPoint, IsOptionalPointName};
 ghost use Rattle.extension_text.specs.Points.{IsPointName, IsRelativeLine, issuing_text, optional_reasons};
 
 use crate::general_name::write_general_names;
 use crate::items::InWords;
+use crate::names::lines::write_true;
+use crate::names::name::write_relative_name;
 use crate::usage::write_reasons;
 use der_extensions::{
     DistributionPoint, DistributionPointName, GeneralNames, IssuingDistributionPoint,
 };
 use der_values::BitString;
-use der_x509::RelativeDistinguishedName;
-use name_text::lines::write_true;
-use name_text::name::write_relative_name;
 use std::fmt;
+use x509::RelativeDistinguishedName;
 
 impl InWords for DistributionPoint<'_> {
     ghost use Rattle.der_extensions.specs.Extensions.{point_of};
@@ -86,7 +86,7 @@ fn write_optional_reasons<W: fmt::Write>(
     }
 }
 
-/// Writes who issues a list, if that is said.
+/// Writes the CRL issuer, if it is there.
 fn write_optional_names<W: fmt::Write>(
     f: &mut fmt::Formatter<W>,
     names: &Option<GeneralNames<'_>>,
@@ -103,7 +103,7 @@ fn write_optional_names<W: fmt::Write>(
     }
 }
 
-/// Writes what a list of revoked certificates is about.
+/// Writes the scope of a CRL.
 pub(crate) fn write_issuing_point<W: fmt::Write>(
     f: &mut fmt::Formatter<W>,
     point: &IssuingDistributionPoint<'_>,
@@ -129,7 +129,7 @@ fn write_issuing_name<W: fmt::Write>(
     }
 }
 
-/// Writes which certificates are in the list.
+/// Writes the kinds of certificates in the CRL.
 fn write_scope<W: fmt::Write>(
     f: &mut fmt::Formatter<W>,
     point: &IssuingDistributionPoint<'_>,

@@ -7,12 +7,12 @@ ghost use Rattle.der_print.specs.Writes.{WritesOne};
 ghost use Rattle.extension_text.specs.Policies.{AreOptionalQualifiers, policy_constraints_text};
 
 use crate::items::{InWords, write_items};
+use crate::names::identifier::{write_identifier, write_identifier_line};
+use crate::names::lines::write_optional_number;
 use crate::notice::write_detail;
 use der_extensions::{
     PolicyConstraints, PolicyInformation, PolicyMapping, PolicyQualifierInfo, SequenceOf,
 };
-use name_text::identifier::{write_identifier, write_identifier_line};
-use name_text::lines::write_optional_number;
 use std::fmt;
 
 impl InWords for PolicyInformation<'_> {
@@ -73,7 +73,7 @@ impl InWords for PolicyMapping<'_> {
     }
 }
 
-/// Writes from where on in a path policies are asked for, or no longer mapped.
+/// Writes after how many certificates of a path policies are required, or no longer mapped.
 pub(crate) fn write_policy_constraints<W: fmt::Write>(
     f: &mut fmt::Formatter<W>,
     constraints: PolicyConstraints,

@@ -1,23 +1,23 @@
-//! Timestamps of logs (RFC 6962 3.2, 3.3).
+//! Signed certificate timestamps (RFC 6962 3.2, 3.3).
 ghost use Rattle.std.specs.Prelude.{◌≡◌, Some, length};
 ghost use Rattle.std.specs.Fmt.{DisplaysOnOk};
 ghost use Rattle.der_print.specs.Writes.{WritesOne};
 ghost use Rattle.extension_text.specs.Timestamps.{AreTimestamps, milliseconds_text, timestamp_text};
 
+use crate::names::lines::write_octets;
 use der_extensions::SignedCertificateTimestamps;
-use name_text::lines::write_octets;
 use std::fmt;
 
 /// The number of version 1.
 const VERSION_1: u8 = 0;
 
-/// Where the time begins, behind the version and the digest of the key of the log.
+/// The offset of the time, after the version and the log's key digest.
 const TIME: usize = 33;
 
-/// Where the time ends.
+/// The offset after the time.
 const TIME_END: usize = 41;
 
-/// Writes timestamps of logs.
+/// Writes signed certificate timestamps.
 pub(crate) fn write_timestamps<W: fmt::Write>(
     f: &mut fmt::Formatter<W>,
     timestamps: &SignedCertificateTimestamps<'_>,
@@ -30,7 +30,7 @@ pub(crate) fn write_timestamps<W: fmt::Write>(
     Ok(())
 }
 
-/// Writes the log and the time of a timestamp of version 1, or the octets of another one.
+/// Writes the log and the time of a timestamp of version 1, or the octets of another version.
 fn write_timestamp<W: fmt::Write>(f: &mut fmt::Formatter<W>, octets: &[u8]) -> fmt::Result
     ensures { DisplaysOnOk W.Write.write_str_gives f.old result (Some (timestamp_text octets.now)) f.new }
 {

@@ -1,4 +1,4 @@
-//! Values of extensions that aren't of their type.
+//! Extension values of another type than their own.
 ghost use Rattle.std.specs.Option.{option_map};
 ghost use Rattle.std.specs.Prelude.{◌≡◌, ◌↔◌, IsTrue, drop};
 ghost use Rattle.der_base.specs.declared.rules.Rules.{Rules};
@@ -8,13 +8,13 @@ ghost use Rattle.der_print.specs.Writes.{WritesOne};
 ghost use Rattle.extension_text.specs.Unread.{FindsElement, IsUnreadBy, IsWhyIn};
 ghost use Rattle.extension_text.specs.Unread.{IsWhyWrong, IsWhyWrongField, MayBeDefault, type_of};
 
+use crate::names::lines::{write_displayed, write_octets};
 use crate::why::{ErrorText, Why, why_of};
 use der_base::any::Any;
 use der_base::error::BerError;
 use der_base::header::{Class, Tag};
 use der_cursor::{Cursor, Refusal};
-use der_walk::TypeName;
-use name_text::lines::{write_displayed, write_octets};
+use der_elements::TypeName;
 use std::fmt;
 
 /// The identifier octet of a BIT STRING (X.690 8.1.2, 8.6).
@@ -23,7 +23,7 @@ const BIT_STRING: u8 = 0x03;
 /// The identifier octet of a SEQUENCE (X.690 8.1.2, 8.9).
 const SEQUENCE: u8 = 0x30;
 
-/// Writes the error of a value that isn't of its type, and its octets, so far in.
+/// Writes the error of a value and its octets, with an indentation.
 pub fn write_unread<W: fmt::Write>(
     f: &mut fmt::Formatter<W>,
     indent: &str,
@@ -39,7 +39,7 @@ pub fn write_unread<W: fmt::Write>(
     write_octets(f, "Octets: ", octets)
 }
 
-/// The error of a value in words. Its offset is in the octets of the value.
+/// The error of a value as text. Its offset counts from the start of the value.
 pub fn error_in<'r>(value: &[u8], refusal: &'r Refusal<BerError>) -> ErrorText<'r>
     ensures refusal { result.refusal.now ≡ refusal.now }
     ensures why { IsWhyIn value.now refusal.now result.why }
@@ -50,7 +50,7 @@ pub fn error_in<'r>(value: &[u8], refusal: &'r Refusal<BerError>) -> ErrorText<'
     }
 }
 
-/// What can be said of the error of a value.
+/// The more exact reason of a value's error.
 fn why_in(value: &[u8], refusal: &Refusal<BerError>) -> Why
     ensures { IsWhyIn value.now refusal.now result }
 {
@@ -60,21 +60,21 @@ fn why_in(value: &[u8], refusal: &Refusal<BerError>) -> Why
     }
 }
 
-/// The element that begins at an offset, by DER.
+/// The DER element at an offset.
 fn element_at(octets: &[u8], offset: usize) -> Option<Any<'_>>
     ensures { FindsElement (drop offset octets.now) (option_map element_of result) }
 {
     first_element(behind(octets, offset))
 }
 
-/// What is left of octets from an offset on, which may be behind their end.
+/// The octets from this offset on; empty if the offset is after the end.
 fn behind(octets: &[u8], offset: usize) -> &[u8]
     ensures { result.now ≡ drop offset octets.now }
 {
     octets.get(offset..).unwrap_or(&[])
 }
 
-/// The element that octets begin with, by DER.
+/// The first DER element.
 fn first_element(octets: &[u8]) -> Option<Any<'_>>
     ensures { FindsElement octets.now (option_map element_of result) }
 {
@@ -101,7 +101,7 @@ fn type_of(element: &Any<'_>) -> TypeName
     }
 }
 
-/// What can be said of an element of a value, if its own value is wrong.
+/// The more exact reason if this element of a value has a wrong value.
 fn why_wrong(value: &[u8], element: &Any<'_>) -> Why
     ensures { IsWhyWrong value.now (element_of element.now) result }
 {
@@ -112,7 +112,7 @@ fn why_wrong(value: &[u8], element: &Any<'_>) -> Why
     }
 }
 
-/// The same of an element in a SEQUENCE, or the SEQUENCE itself.
+/// The more exact reason if this element, a SEQUENCE or in one, has a wrong value.
 fn why_wrong_field(element: &Any<'_>) -> Why
     ensures { IsWhyWrongField (element_of element.now) result }
 {
@@ -123,7 +123,7 @@ fn why_wrong_field(element: &Any<'_>) -> Why
     }
 }
 
-/// Whether an octet 0 in an element is FALSE, or under an implicit tag FALSE or 0.
+/// Returns whether a 0 octet in this element may be a default value: FALSE, or under an implicit tag FALSE or 0.
 fn may_be_default(element: &Any<'_>) -> bool
     ensures { IsTrue result ↔ MayBeDefault (element_of element.now) }
 {

@@ -1,4 +1,4 @@
-//! What a key is for (RFC 5280 4.2.1.3), and reasons of revocation (4.2.1.13).
+//! Key usage (RFC 5280 4.2.1.3) and reasons of revocation (4.2.1.13).
 ghost use Rattle.std.specs.Prelude.{Some};
 ghost use Rattle.std.specs.Fmt.{DisplaysOnOk};
 ghost use Rattle.der_values.specs.Kinds.{is_bit_set};
@@ -50,7 +50,7 @@ fn write_use<W: fmt::Write>(
     Ok(())
 }
 
-/// Writes the reasons of revocation that a list has.
+/// Writes the reasons of revocation that a CRL covers.
 pub(crate) fn write_reasons<W: fmt::Write>(
     f: &mut fmt::Formatter<W>,
     label: &str,

@@ -6,6 +6,7 @@ use crate::authority::{write_authority, write_constraints};
 use crate::general_name::write_general_names;
 use crate::items::write_items;
 use crate::lists::write_name_constraints;
+use crate::names::lines::{write_moment, write_number, write_octets};
 use crate::points::write_issuing_point;
 use crate::policies::write_policy_constraints;
 use crate::timestamps::write_timestamps;
@@ -13,11 +14,10 @@ use crate::unread::{error_in, write_unread};
 use crate::usage::write_usage;
 use crate::web::write_organization;
 use der_extensions::{ExtensionValue, read_extension_value};
-use der_x509::Extension;
-use name_text::lines::{write_moment, write_number, write_octets};
 use std::fmt;
+use x509::Extension;
 
-/// Writes the value of an extension: what it says, or why it isn't of its type, and its octets.
+/// Writes the value of an extension, or its error and its octets if it has another type.
 pub(crate) fn write_extension_value<W: fmt::Write>(
     f: &mut fmt::Formatter<W>,
     extension: &Extension<'_>,
@@ -64,6 +64,7 @@ fn write_value<W: fmt::Write>(
         ExtensionValue::PrecertificatePoison => Ok(()),
         ExtensionValue::TlsFeatures(features) => write_items(f, features),
         ExtensionValue::OcspNoCheck => Ok(()),
+        ExtensionValue::NoRevAvail => Ok(()),
         ExtensionValue::QcStatements(statements) => write_items(f, statements),
         ExtensionValue::OrganizationIdentifier(organization) => write_organization(f, organization),
         _ => write_octets(f, "      Octets: ", octets),

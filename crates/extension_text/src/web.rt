@@ -1,15 +1,15 @@
-//! The extensions of the web, and attributes of the subject.
+//! Extensions of the web, and subject attributes.
 ghost use Rattle.std.specs.Prelude.{Some};
 ghost use Rattle.std.specs.Fmt.{DisplaysOnOk};
 ghost use Rattle.der_extensions.specs.WebExtensions.{organization_identifier_of};
 ghost use Rattle.extension_text.specs.Web.{feature_text, organization_text};
 
 use crate::items::{InWords, write_items};
+use crate::names::element::AnyValue;
+use crate::names::identifier::write_identifier_line;
+use crate::names::lines::{write_optional_any, write_optional_plain, write_plain};
 use der_base::any::Any;
 use der_extensions::{DirectoryAttribute, OrganizationIdentifier, QcStatement, TlsFeature};
-use name_text::element::AnyValue;
-use name_text::identifier::write_identifier_line;
-use name_text::lines::{write_optional_any, write_optional_plain, write_plain};
 use std::fmt;
 
 impl InWords for DirectoryAttribute<'_> {
@@ -36,10 +36,10 @@ impl InWords for Any<'_> {
     }
 }
 
-/// The number of the extension status_request of TLS (RFC 6066).
+/// The number of the TLS extension status_request (RFC 6066).
 const STATUS_REQUEST: u32 = 5;
 
-/// That of status_request_v2 (RFC 6961).
+/// The number of the TLS extension status_request_v2 (RFC 6961).
 const STATUS_REQUEST_V2: u32 = 17;
 
 impl InWords for TlsFeature {
@@ -55,7 +55,7 @@ impl InWords for TlsFeature {
     }
 }
 
-/// Writes the name of an extension of TLS, if it has one here, and its number.
+/// Writes the name of a TLS extension, if it is known here, and its number.
 fn write_feature<W: fmt::Write>(f: &mut fmt::Formatter<W>, number: u32) -> fmt::Result
     ensures { DisplaysOnOk W.Write.write_str_gives f.old result (Some (feature_text number)) f.new }
 {
@@ -78,7 +78,7 @@ impl InWords for QcStatement<'_> {
     }
 }
 
-/// Writes in which register an organization is.
+/// Writes the register of an organization.
 pub(crate) fn write_organization<W: fmt::Write>(
     f: &mut fmt::Formatter<W>,
     organization: &OrganizationIdentifier<'_>,

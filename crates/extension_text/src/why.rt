@@ -1,4 +1,4 @@
-//! What can be said of an error more exactly than by its reason.
+//! More exact reasons of errors.
 ghost use Rattle.std.specs.Prelude.{◌≡◌};
 ghost use Rattle.der_cursor.specs.Cursors.{is_at_end};
 ghost use Rattle.extension_text.specs.Why.{unexpected, why_of};
@@ -6,21 +6,21 @@ ghost use Rattle.extension_text.specs.Why.{unexpected, why_of};
 use der_base::error::{BerError, Err as Reason};
 use der_base::header::Class;
 use der_cursor::Refusal;
-use der_walk::TypeName;
+use der_elements::TypeName;
 use std::fmt;
 
-/// What can be said of an error more exactly than by its reason.
+/// A more exact reason of an error.
 #[derive(Clone, Copy, Debug, PartialEq)]
 pub enum Why {
-    /// Nothing: the reader says why.
+    /// There is none: the reader's reason is printed.
     AsRead,
-    /// The value that it has by default is written, which DER leaves out (X.690 11.5).
+    /// A default value is encoded, which DER omits (X.690 11.5).
     Default,
-    /// A list has no item, where its type has one at least.
+    /// A list is empty, and its type requires an item.
     Empty,
-    /// The last of some named bits is 0, which DER leaves out (X.690 11.2.2).
+    /// The last named bit is 0, which DER omits (X.690 11.2.2).
     LastBit,
-    /// An element with this tag stands where another one is due.
+    /// An element with this tag is where another is expected.
     Unexpected(TypeName),
 }
 
@@ -41,7 +41,7 @@ impl fmt::Display for Why {
     }
 }
 
-/// An error in words: its offset, and what can be said of it: "at 276: a default value is written (X.690 11.5)".
+/// The text of an error, with its offset: "at 276: a default value is written (X.690 11.5)".
 #[derive(Clone, Copy)]
 pub struct ErrorText<'r> {
     pub refusal: &'r Refusal<BerError>,
@@ -62,8 +62,8 @@ impl fmt::Display for ErrorText<'_> {
     }
 }
 
-/// What can be said of an error. `name` is the type or tag of the element that is refused, if there is one, and `wrong`
-/// what can be said of it if its value is wrong.
+/// The more exact reason of an error. `name` is the type or tag of the rejected element, if there is one, and `wrong`
+/// the reason if its value is wrong.
 pub fn why_of(refusal: &Refusal<BerError>, name: Option<TypeName>, wrong: Why) -> Why
     ensures { result ≡ why_of refusal.now name wrong }
 {
@@ -76,7 +76,7 @@ pub fn why_of(refusal: &Refusal<BerError>, name: Option<TypeName>, wrong: Why) -
     }
 }
 
-/// What can be said of an element that isn't due: the universal types are told by the reader.
+/// The reason for an unexpected element. The reader's reason names universal types.
 fn unexpected(name: Option<TypeName>) -> Why
     ensures { result ≡ unexpected name }
 {
@@ -86,7 +86,7 @@ fn unexpected(name: Option<TypeName>) -> Why
     }
 }
 
-/// Whether the refused element is where its list ends, so that there is none.
+/// Returns whether the rejected element is at the end of its list, so that it is missing.
 pub fn is_at_end(refusal: &Refusal<BerError>) -> bool
     ensures { result ≡ is_at_end refusal.now.list_end refusal.now.offset }
 {

@@ -1,6 +1,6 @@
 -- The first piece of a value.
 use Rattle.std.proofs.Common.{◌≡◌, ◌<◌, ◌≤◌, List, [], ◌∷◌, codes, get_or, length, refl, arith}
-use Rattle.ldap_reader.specs.declared.filter.Piece.{Piece}
+use Rattle.messages.specs.declared.ldap.filter.Piece.{Piece}
 use Rattle.message_text.specs.LdapFilters.{star_before, star_unless_initial}
 
 pub first_star : (w : List Piece) (x : Piece) → 1 ≤ length w → star_unless_initial (get_or w 0 x).place ≡ star_before w

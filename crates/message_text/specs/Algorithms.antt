@@ -5,13 +5,14 @@ use Rattle.std.specs.Option.{option_map}
 use Rattle.der_base.specs.declared.header.Class.{Class}
 use Rattle.der_base.specs.declared.header.Class.TheVariants.{Universal}
 use Rattle.der_cursor.specs.Formats.{Element, element_of}
-use Rattle.pkcs8_reader.specs.declared.encrypted.EncryptedPrivateKeyInfo.{EncryptedPrivateKeyInfo}
-use Rattle.pkcs8_reader.specs.declared.key.Algorithm.{Algorithm}
+use Rattle.x509_keys.specs.declared.encrypted.EncryptedPrivateKeyInfo.{EncryptedPrivateKeyInfo}
+use Rattle.x509_keys.specs.declared.key.Algorithm.{Algorithm}
 use Rattle.message_text.specs.declared.algorithm.AlgorithmText.{AlgorithmText}
 use Rattle.message_text.specs.declared.algorithm.EncryptedKeyText.{EncryptedKeyText}
 use Rattle.message_text.specs.declared.algorithm.ParametersText.{ParametersText}
 use Rattle.message_text.specs.declared.algorithm.ParametersText.TheVariants.{Absent, Curve, Other}
-use Rattle.message_text.specs.Words.{IsNamed, count_text, named_text}
+use Rattle.message_text.specs.Words.{IsNamed, named_text}
+use Rattle.type_words.specs.Texts.{count_text}
 
 abbrev pub is_universal : Class → Bool
 is_universal Universal = true

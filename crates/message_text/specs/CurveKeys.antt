@@ -4,12 +4,12 @@ use Rattle.std.specs.Option.{option_copied, option_map}
 use Rattle.der_cursor.specs.Formats.{element_of}
 use Rattle.der_print.specs.declared.style.Limit.TheVariants.{Whole}
 use Rattle.der_print.specs.Values.{hex_text}
-use Rattle.pkcs8_reader.specs.declared.curve.EcPrivateKey.{EcPrivateKey}
-use Rattle.pkcs8_reader.specs.Keys.{bits_of}
+use Rattle.x509_keys.specs.declared.curve.EcPrivateKey.{EcPrivateKey}
+use Rattle.x509_keys.specs.Keys.{bits_of}
 use Rattle.message_text.specs.declared.curve_key.CurveFields.{CurveFields}
 use Rattle.message_text.specs.declared.curve_key.EcKeyText.{EcKeyText}
 use Rattle.message_text.specs.Algorithms.{IsParameters, parameters_text}
-use Rattle.message_text.specs.Words.{count_text}
+use Rattle.type_words.specs.Texts.{count_text}
 
 -- the octets of bits
 abbrev pub key_octets : Option (ℕ × List ℕ) → Option (List ℕ)

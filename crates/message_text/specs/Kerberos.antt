@@ -6,9 +6,10 @@ use Rattle.std.specs.List.{flat_map}
 use Rattle.der_base.specs.declared.time.ASN1DateTime.{ASN1DateTime}
 use Rattle.der_base.specs.Names.{name_at}
 use Rattle.der_print.specs.Values.{moment_text}
-use Rattle.kerberos_reader.specs.declared.name.Principal.{Principal}
-use Rattle.kerberos_reader.specs.declared.request.Request.{Request}
-use Rattle.message_text.specs.Words.{field_text, name_text, text_of}
+use Rattle.messages.specs.declared.kerberos.name.Principal.{Principal}
+use Rattle.messages.specs.declared.kerberos.request.Request.{Request}
+use Rattle.message_text.specs.Words.{field_text}
+use Rattle.type_words.specs.Texts.{name_text, text_of}
 
 -- the components of a name, with slashes between them
 abbrev pub further_component : List ℕ → List ℕ

@@ -4,22 +4,23 @@ use Rattle.std.specs.Borrow.{Bor}
 use Rattle.std.specs.Global.{Vec}
 use Rattle.std.specs.List.{flat_map}
 use Rattle.der_base.specs.Names.{name_at}
-use Rattle.ldap_reader.specs.declared.filter.FilterPart.{FilterPart}
-use Rattle.ldap_reader.specs.declared.message.Attribute.{Attribute}
-use Rattle.ldap_reader.specs.declared.message.Change.{Change}
-use Rattle.ldap_reader.specs.declared.message.Content.{Content}
-use Rattle.ldap_reader.specs.declared.message.Content.TheVariants.{Nothing, Name, Rename, Entry, Modification}
-use Rattle.ldap_reader.specs.declared.message.Content.TheVariants.{Comparison, References, Search as SearchContent}
-use Rattle.ldap_reader.specs.declared.message.Content.TheVariants.{Result as Outcome}
-use Rattle.ldap_reader.specs.declared.message.Control.{Control}
-use Rattle.ldap_reader.specs.declared.message.Message.{Message}
-use Rattle.ldap_reader.specs.declared.message.Operation.{Operation}
-use Rattle.ldap_reader.specs.declared.message.Operation.TheVariants as operations
-use Rattle.ldap_reader.specs.declared.message.Search.{Search}
+use Rattle.messages.specs.declared.ldap.filter.FilterPart.{FilterPart}
+use Rattle.messages.specs.declared.ldap.message.Attribute.{Attribute}
+use Rattle.messages.specs.declared.ldap.message.Change.{Change}
+use Rattle.messages.specs.declared.ldap.message.Content.{Content}
+use Rattle.messages.specs.declared.ldap.message.Content.TheVariants.{Nothing, Name, Rename, Entry, Modification}
+use Rattle.messages.specs.declared.ldap.message.Content.TheVariants.{Comparison, References, Search as SearchContent}
+use Rattle.messages.specs.declared.ldap.message.Content.TheVariants.{Result as Outcome}
+use Rattle.messages.specs.declared.ldap.message.Control.{Control}
+use Rattle.messages.specs.declared.ldap.message.Message.{Message}
+use Rattle.messages.specs.declared.ldap.message.Operation.{Operation}
+use Rattle.messages.specs.declared.ldap.message.Operation.TheVariants as operations
+use Rattle.messages.specs.declared.ldap.message.Search.{Search}
 use Rattle.message_text.specs.LdapFilters.{filter_text}
 use Rattle.message_text.specs.LdapResults.{result_names}
-use Rattle.message_text.specs.Words.{field_text, fields_text, name_text, number_text, octets_text}
-use Rattle.message_text.specs.Words.{shown_text}
+use Rattle.message_text.specs.Words.{field_text, fields_text, number_text}
+use Rattle.type_words.specs.Texts.{name_text, octets_text}
+use Rattle.type_words.specs.Texts.{shown_text}
 
 -- the operations (appendix B)
 abbrev pub operation_name : Operation → List ℕ

@@ -5,16 +5,16 @@ use Rattle.std.specs.Borrow.{Bor}
 use Rattle.std.specs.List.{flat_map}
 use Rattle.der_base.specs.Pretty.{hex_pair}
 use Rattle.der_base.specs.Text.{is_one_of, is_within}
-use Rattle.ldap_reader.specs.declared.filter.Connective.{Connective}
-use Rattle.ldap_reader.specs.declared.filter.Connective.TheVariants.{And, Or, Not}
-use Rattle.ldap_reader.specs.declared.filter.FilterPart.{FilterPart}
-use Rattle.ldap_reader.specs.declared.filter.FilterPart.TheVariants.{Open, Close, Comparison, Substrings, Present}
-use Rattle.ldap_reader.specs.declared.filter.FilterPart.TheVariants.{Extensible}
-use Rattle.ldap_reader.specs.declared.filter.Piece.{Piece}
-use Rattle.ldap_reader.specs.declared.filter.Place.{Place}
-use Rattle.ldap_reader.specs.declared.filter.Place.TheVariants.{Initial, Final}
-use Rattle.ldap_reader.specs.declared.filter.Relation.{Relation}
-use Rattle.ldap_reader.specs.declared.filter.Relation.TheVariants.{Equal, GreaterOrEqual, LessOrEqual, Approximate}
+use Rattle.messages.specs.declared.ldap.filter.Connective.{Connective}
+use Rattle.messages.specs.declared.ldap.filter.Connective.TheVariants.{And, Or, Not}
+use Rattle.messages.specs.declared.ldap.filter.FilterPart.{FilterPart}
+use Rattle.messages.specs.declared.ldap.filter.FilterPart.TheVariants.{Open, Close, Comparison, Substrings, Present}
+use Rattle.messages.specs.declared.ldap.filter.FilterPart.TheVariants.{Extensible}
+use Rattle.messages.specs.declared.ldap.filter.Piece.{Piece}
+use Rattle.messages.specs.declared.ldap.filter.Place.{Place}
+use Rattle.messages.specs.declared.ldap.filter.Place.TheVariants.{Initial, Final}
+use Rattle.messages.specs.declared.ldap.filter.Relation.{Relation}
+use Rattle.messages.specs.declared.ldap.filter.Relation.TheVariants.{Equal, GreaterOrEqual, LessOrEqual, Approximate}
 
 -- characters that have a meaning in filters: ( ) * \
 abbrev pub is_special : ℕ → Bool

@@ -7,5 +7,4 @@ pub mod LdapResults
 pub mod PrivateKeys
 pub mod PublicKeys
 pub mod RsaKeys
-pub mod Snmp
 pub mod Words

@@ -2,8 +2,8 @@
 use Rattle.std.specs.Prelude.{◌≡◌, ◌≢◌, ℕ, Some, None, List, ◌++◌, codes}
 use Rattle.der_print.specs.declared.style.Limit.TheVariants.{Whole}
 use Rattle.der_print.specs.Values.{hex_text}
-use Rattle.pkcs8_reader.specs.declared.public.SubjectPublicKeyInfo.{SubjectPublicKeyInfo}
-use Rattle.pkcs8_reader.specs.OtherKeys.{whole_rsa_public_key}
+use Rattle.x509_keys.specs.declared.public.SubjectPublicKeyInfo.{SubjectPublicKeyInfo}
+use Rattle.x509_keys.specs.OtherKeys.{whole_rsa_public_key}
 use Rattle.message_text.specs.declared.public_key.PublicInside.{PublicInside}
 use Rattle.message_text.specs.declared.public_key.PublicInside.TheVariants.{Rsa, Other}
 use Rattle.message_text.specs.declared.public_key.PublicKeyText.{PublicKeyText}

@@ -3,7 +3,7 @@ use Rattle.std.specs.Prelude.{ℕ, ◌+◌, ◌-◌, ◌*◌, Bool, true, false,
 use Rattle.std.specs.Int.{leading_zeros, w8}
 use Rattle.der_print.specs.declared.style.Limit.TheVariants.{Whole}
 use Rattle.der_print.specs.Values.{number_text, without_leading_zero}
-use Rattle.pkcs8_reader.specs.declared.rsa.RsaPrivateKey.{RsaPrivateKey}
+use Rattle.x509_keys.specs.declared.rsa.RsaPrivateKey.{RsaPrivateKey}
 
 -- how many bits octets have from the highest 1 of the first on
 abbrev pub bits_of : List ℕ → ℕ

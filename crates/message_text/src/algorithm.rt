@@ -1,24 +1,24 @@
-//! Algorithms (RFC 5280 4.1.1.2), and keys of which only the algorithm is in the open.
+//! Algorithms (RFC 5280 4.1.1.2), and keys that show only their algorithm.
 ghost use Rattle.std.specs.Prelude.{◌≡◌};
 ghost use Rattle.std.specs.Option.{option_map};
 ghost use Rattle.der_cursor.specs.Formats.{element_of};
 ghost use Rattle.message_text.specs.Algorithms.{IsAlgorithm, IsEncrypted, IsParameters, is_identifier};
 
 use crate::identifier::NamedIdentifier;
-use crate::octets::Count;
 use der_base::any::Any;
 use der_base::header::{Class, Tag};
-use pkcs8_reader::{Algorithm, EncryptedPrivateKeyInfo};
 use std::fmt;
+use type_words::Count;
+use x509_keys::{Algorithm, EncryptedPrivateKeyInfo};
 
 /// The parameters of an algorithm.
 #[derive(Clone, Copy)]
 pub enum ParametersText<'a> {
-    /// There are none.
+    /// The parameters are absent.
     Absent,
-    /// A curve by its identifier (RFC 5480 2.1.1).
+    /// The identifier of a curve (RFC 5480 2.1.1).
     Curve(NamedIdentifier<'a>),
-    /// Another element, and how many content octets it has.
+    /// Another element, by the number of its content octets.
     Other(usize),
 }
 
@@ -37,7 +37,7 @@ impl<'a> ParametersText<'a> {
     }
 }
 
-/// Whether an element is an OBJECT IDENTIFIER.
+/// Returns whether an element is an OBJECT IDENTIFIER.
 fn is_identifier(element: Any<'_>) -> bool
     ensures { result ≡ is_identifier (element_of element.entry) }
 {
@@ -45,7 +45,7 @@ fn is_identifier(element: Any<'_>) -> bool
     element.class() == Class::Universal && is_primitive && element.tag() == Tag::Oid
 }
 
-/// A line for a curve. For other parameters a line if they have octets, which those of NULL don't.
+/// A line for a curve, and for other parameters if they have content octets. NULL has none.
 impl fmt::Display for ParametersText<'_> {
     ghost use Rattle.std.specs.Prelude.{Some};
     ghost use Rattle.message_text.specs.Algorithms.{parameters_text};
@@ -97,7 +97,7 @@ impl fmt::Display for AlgorithmText<'_> {
     }
 }
 
-/// The lines of an encrypted private key (RFC 5958 3): how it is encrypted, and how many octets that are.
+/// The lines of an encrypted private key (RFC 5958 3): the algorithm, and the number of encrypted octets.
 #[derive(Clone, Copy)]
 pub struct EncryptedKeyText<'a> {
     algorithm: AlgorithmText<'a>,

@@ -3,19 +3,19 @@ ghost use Rattle.std.specs.Prelude.{◌≡◌, Some};
 ghost use Rattle.std.specs.Fmt.{DisplaysOnOk};
 ghost use Rattle.std.specs.Option.{option_copied, option_map};
 ghost use Rattle.message_text.specs.CurveKeys.{IsCurveKey, key_octets, public_text};
-ghost use Rattle.pkcs8_reader.specs.Keys.{bits_of};
+ghost use Rattle.x509_keys.specs.Keys.{bits_of};
 
 use crate::algorithm::ParametersText;
-use crate::octets::{Count, digits};
 use der_values::BitString;
-use pkcs8_reader::EcPrivateKey;
 use std::fmt;
+use type_words::{Count, digits};
+use x509_keys::EcPrivateKey;
 
-/// The lines of a private key of a curve, but its secret number.
+/// The lines of an elliptic private key, without its private number.
 #[derive(Clone, Copy)]
 pub(crate) struct CurveFields<'a> {
     parameters: ParametersText<'a>,
-    /// How many octets the key has.
+    /// The number of octets of the key.
     size: usize,
     public_key: Option<&'a [u8]>,
 }
@@ -32,7 +32,7 @@ impl<'a> CurveFields<'a> {
     }
 }
 
-/// The octets of bits, if there are bits.
+/// The octets of a BIT STRING, if there is one.
 pub(crate) fn octets_of(bits: Option<BitString<'_>>) -> Option<&[u8]>
     ensures { option_copied result ≡ key_octets (option_map bits_of bits.entry) }
 {
@@ -73,7 +73,7 @@ pub(crate) fn write_public<W: fmt::Write>(
     }
 }
 
-/// The lines of a private key of a curve that stands alone (SEC 1).
+/// The lines of an elliptic private key on its own (SEC 1), without its private number.
 #[derive(Clone, Copy)]
 pub struct EcKeyText<'a> {
     fields: CurveFields<'a>,

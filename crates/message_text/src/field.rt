@@ -3,10 +3,10 @@ ghost use Rattle.std.specs.Prelude.{Some};
 ghost use Rattle.std.specs.Fmt.{DisplaysOnOk};
 ghost use Rattle.message_text.specs.Words.{fields_text};
 
-use crate::octets::quoted;
 use std::fmt;
+use type_words::{Name, quoted};
 
-/// The line of a field that is a text: its label, and the text in quotes.
+/// A line of a field with a text: the label, and the text in quotes.
 #[derive(Clone, Copy)]
 pub(crate) struct TextField<'l, 'a> {
     pub label: &'l str,
@@ -26,7 +26,7 @@ impl fmt::Display for TextField<'_, '_> {
     }
 }
 
-/// The line of a number: its label, the number, and its name if it has one.
+/// A line of a number: the label, the number, and its name if it has one.
 #[derive(Clone, Copy)]
 pub(crate) struct NumberField<'l> {
     pub label: &'l str,
@@ -63,23 +63,4 @@ pub(crate) fn write_fields<W: fmt::Write>(
         write!(f, "{field}")?;
     }
     Ok(())
-}
-
-/// A name after a space, if there is one.
-#[derive(Clone, Copy)]
-pub(crate) struct Name(pub Option<&'static str>);
-
-impl fmt::Display for Name {
-    ghost use Rattle.std.specs.Prelude.{Some};
-    ghost use Rattle.std.specs.Option.{option_copied};
-    ghost use Rattle.message_text.specs.Words.{name_text};
-
-    ghost output = { λ x. Some (name_text (option_copied x.0)) };
-
-    fn fmt<W: fmt::Write>(&self, f: &mut fmt::Formatter<W>) -> fmt::Result {
-        match self.0 {
-            Some(name) => write!(f, " {name}"),
-            None => Ok(()),
-        }
-    }
 }

@@ -5,7 +5,7 @@ use der_print::Arcs;
 use oid_names::name_of;
 use std::fmt;
 
-/// An OBJECT IDENTIFIER by its name, if it has one, and its arcs, as `ecPublicKey (1.2.840.10045.2.1)`.
+/// An OBJECT IDENTIFIER with its name, if it has one, and its arcs: `ecPublicKey (1.2.840.10045.2.1)`.
 #[derive(Clone, Copy)]
 pub struct NamedIdentifier<'a> {
     /// The content octets.

@@ -1,4 +1,4 @@
-//! Controls of messages of LDAP (RFC 4511 4.1.11).
+//! Controls of LDAP messages (RFC 4511 4.1.11).
 ghost use Rattle.std.specs.Prelude.{◌≡◌, Some};
 ghost use Rattle.std.specs.Fmt.{DisplaysOnOk};
 ghost use Rattle.std.specs.List.{flat_map};
@@ -6,11 +6,11 @@ ghost use Rattle.message_text.specs.Ldap.{control_text, controls_text, is_critic
 
 use crate::field::TextField;
 use crate::ldap_search::flag_name;
-use crate::octets::Octets;
-use ldap_reader::Control;
+use messages::ldap::Control;
 use std::fmt;
+use type_words::Octets;
 
-/// Writes the controls of a message, if it has some.
+/// Writes the controls of a message, if it has any.
 pub(crate) fn write_controls<W: fmt::Write>(
     f: &mut fmt::Formatter<W>,
     controls: &Option<Vec<Control<'_>>>,
@@ -47,7 +47,7 @@ fn write_control<W: fmt::Write>(f: &mut fmt::Formatter<W>, control: Control<'_>)
     write!(f, "{kind}    Critical: {critical}\n{value}")
 }
 
-/// Whether an operation isn't to be done without a control.
+/// Returns whether an operation must not be done without the control.
 fn is_critical(criticality: Option<bool>) -> bool
     ensures { result ≡ is_critical criticality }
 {

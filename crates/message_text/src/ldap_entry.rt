@@ -1,4 +1,4 @@
-//! Attributes of entries, and changes of them (RFC 4511 4.1.7, 4.6).
+//! Attributes of entries, and their changes (RFC 4511 4.1.7, 4.6).
 ghost use Rattle.std.specs.Prelude.{◌≡◌, Some};
 ghost use Rattle.std.specs.Fmt.{DisplaysOnOk};
 ghost use Rattle.std.specs.Option.{option_copied};
@@ -7,9 +7,9 @@ ghost use Rattle.message_text.specs.Ldap.{attribute_text, attributes_text, chang
 ghost use Rattle.message_text.specs.Ldap.{value_lines};
 
 use crate::field::{NumberField, TextField};
-use crate::octets::Shown;
-use ldap_reader::{Attribute, Change};
+use messages::ldap::{Attribute, Change};
 use std::fmt;
+use type_words::Shown;
 
 /// Writes attributes and their values.
 pub(crate) fn write_attributes<W: fmt::Write>(
@@ -37,7 +37,7 @@ pub(crate) fn write_changes<W: fmt::Write>(
     Ok(())
 }
 
-/// Writes what is done with an attribute, and the values that are meant.
+/// Writes the operation of a change, its attribute and its values.
 fn write_change<W: fmt::Write>(f: &mut fmt::Formatter<W>, change: &Change<'_>) -> fmt::Result
     ensures { DisplaysOnOk W.Write.write_str_gives f.old result (Some (change_text change.now)) f.new }
 {
@@ -93,7 +93,7 @@ impl fmt::Display for ValueLine<'_> {
     }
 }
 
-/// The name of a change.
+/// The name of a change's operation.
 fn change_name(code: u64) -> Option<&'static str>
     ensures { option_copied result ≡ name_at change_names code }
 {

@@ -1,4 +1,4 @@
-//! Filters of searches of LDAP, as RFC 4515 writes them.
+//! LDAP filters in the form of RFC 4515.
 ghost use Rattle.std.specs.Prelude.{◌≡◌, Some};
 ghost use Rattle.std.specs.Fmt.{DisplaysOnOk};
 ghost use Rattle.der_base.specs.Pretty.{hex_pair};
@@ -7,7 +7,7 @@ ghost use Rattle.message_text.specs.LdapFilters.{filter_text, flag_text, is_norm
 ghost use Rattle.message_text.specs.LdapFilters.{part_text, pieces_text, present_text, relation_text, star_before};
 ghost use Rattle.message_text.specs.LdapFilters.{star_unless_final, star_unless_initial, substrings_text};
 
-use ldap_reader::{Connective, FilterPart, Piece, Place, Relation};
+use messages::ldap::{Connective, FilterPart, Piece, Place, Relation};
 use std::fmt;
 
 /// A filter.
@@ -60,14 +60,14 @@ fn write_part<W: fmt::Write>(f: &mut fmt::Formatter<W>, part: &FilterPart<'_>) -
     }
 }
 
-/// Writes the start of filters that are joined.
+/// Writes the start of a connective.
 fn write_connective<W: fmt::Write>(f: &mut fmt::Formatter<W>, connective: Connective) -> fmt::Result
     ensures { DisplaysOnOk W.Write.write_str_gives f.old result (Some (connective_text connective)) f.new }
 {
     f.write_str(connective_text(connective))
 }
 
-/// Writes an attribute and the value that it is compared with.
+/// Writes an attribute and the value to compare it with.
 fn write_comparison<W: fmt::Write>(
     f: &mut fmt::Formatter<W>,
     relation: Relation,
@@ -83,7 +83,7 @@ fn write_comparison<W: fmt::Write>(
     write!(f, "({attribute}{relation}{value})")
 }
 
-/// Writes an attribute and the pieces of its values.
+/// Writes an attribute and the pieces of its value.
 fn write_substrings<W: fmt::Write>(
     f: &mut fmt::Formatter<W>,
     attribute: &[u8],
@@ -97,7 +97,7 @@ fn write_substrings<W: fmt::Write>(
     write!(f, "({attribute}={pieces})")
 }
 
-/// Writes an attribute that an entry has to have.
+/// Writes an attribute that an entry must have.
 fn write_present<W: fmt::Write>(f: &mut fmt::Formatter<W>, attribute: &[u8]) -> fmt::Result
     ensures { DisplaysOnOk W.Write.write_str_gives f.old result (Some (present_text attribute.now)) f.new }
 {
@@ -105,7 +105,7 @@ fn write_present<W: fmt::Write>(f: &mut fmt::Formatter<W>, attribute: &[u8]) -> 
     write!(f, "({attribute}=*)")
 }
 
-/// Writes a match by a rule.
+/// Writes a match by a matching rule.
 fn write_extensible<W: fmt::Write>(
     f: &mut fmt::Formatter<W>,
     rule: Option<&[u8]>,
@@ -123,7 +123,7 @@ fn write_extensible<W: fmt::Write>(
     write!(f, "({attribute}{flag}{rule}:={value})")
 }
 
-/// What joins filters.
+/// The sign of a connective.
 fn connective_text(connective: Connective) -> &'static str
     ensures { result.now ≡ connective_text connective }
 {
@@ -134,7 +134,7 @@ fn connective_text(connective: Connective) -> &'static str
     }
 }
 
-/// What is between an attribute and a value.
+/// The sign between an attribute and a value.
 fn relation_text(relation: Relation) -> &'static str
     ensures { result.now ≡ relation_text relation }
 {
@@ -146,7 +146,7 @@ fn relation_text(relation: Relation) -> &'static str
     }
 }
 
-/// Whether attributes of the name count too.
+/// The mark if attributes of the entry's name match too.
 fn flag_text(flag: Option<bool>) -> &'static str
     ensures { result.now ≡ flag_text flag }
 {
@@ -157,7 +157,7 @@ fn flag_text(flag: Option<bool>) -> &'static str
     }
 }
 
-/// The attribute of a match by a rule, if there is one.
+/// The attribute of a match by a matching rule, if there is one.
 #[derive(Clone, Copy)]
 struct NameText<'a>(Option<&'a [u8]>);
 
@@ -175,7 +175,7 @@ impl fmt::Display for NameText<'_> {
     }
 }
 
-/// The rule of a match, if there is one.
+/// The matching rule, if there is one.
 #[derive(Clone, Copy)]
 struct RuleText<'a>(Option<&'a [u8]>);
 
@@ -196,7 +196,7 @@ impl fmt::Display for RuleText<'_> {
     }
 }
 
-/// The pieces of a value, with asterisks between them, and before and after them.
+/// The pieces of a value, with asterisks around and between them.
 #[derive(Clone, Copy)]
 struct PiecesText<'r, 'a>(&'r [Piece<'a>]);
 
@@ -224,7 +224,7 @@ fn star_before(pieces: &[Piece<'_>]) -> &'static str
     }
 }
 
-/// The asterisk before a piece, which is the first one.
+/// The asterisk before the first piece, by its position.
 fn star_unless_initial(place: Place) -> &'static str
     ensures { result.now ≡ star_unless_initial place }
 {
@@ -235,7 +235,7 @@ fn star_unless_initial(place: Place) -> &'static str
     }
 }
 
-/// The asterisk after a piece.
+/// The asterisk after a piece, by its position.
 fn star_unless_final(place: Place) -> &'static str
     ensures { result.now ≡ star_unless_final place }
 {
@@ -299,7 +299,7 @@ fn write_assertion<W: fmt::Write>(f: &mut fmt::Formatter<W>, octets: &[u8]) -> f
     Ok(())
 }
 
-/// Writes an octet, escaped if it isn't a normal character.
+/// Writes an octet, escaped unless it is a normal character.
 fn write_octet<W: fmt::Write>(f: &mut fmt::Formatter<W>, octet: u8) -> fmt::Result
     ensures { DisplaysOnOk W.Write.write_str_gives f.old result (Some (octet_text octet)) f.new }
 {
@@ -309,21 +309,21 @@ fn write_octet<W: fmt::Write>(f: &mut fmt::Formatter<W>, octet: u8) -> fmt::Resu
     write_pair(f, octet)
 }
 
-/// Whether an octet is ASCII that can be printed and has no meaning in filters.
+/// Returns whether an octet is printable ASCII without a meaning in filters.
 fn is_normal(octet: u8) -> bool
     ensures { result ≡ is_normal octet }
 {
     octet >= b' ' && octet <= b'~' && !is_special(octet)
 }
 
-/// Whether an octet has a meaning in filters.
+/// Returns whether an octet has a meaning in filters.
 fn is_special(octet: u8) -> bool
     ensures { result ≡ is_special octet }
 {
     matches!(octet, 0x28 | 0x29 | 0x2a | 0x5c)
 }
 
-/// Writes a backslash and an octet as a hexadecimal number of two digits.
+/// Writes a backslash and an octet in two hexadecimal digits.
 fn write_pair<W: fmt::Write>(f: &mut fmt::Formatter<W>, octet: u8) -> fmt::Result
     ensures { DisplaysOnOk W.Write.write_str_gives f.old result (Some (pair_text octet)) f.new }
 {
@@ -331,7 +331,7 @@ fn write_pair<W: fmt::Write>(f: &mut fmt::Formatter<W>, octet: u8) -> fmt::Resul
     write_hex(f, octet)
 }
 
-/// Writes an octet as a hexadecimal number of two digits.
+/// Writes an octet in two hexadecimal digits.
 fn write_hex<W: fmt::Write>(f: &mut fmt::Formatter<W>, octet: u8) -> fmt::Result
     ensures { DisplaysOnOk W.Write.write_str_gives f.old result (Some (hex_pair octet)) f.new }
 {

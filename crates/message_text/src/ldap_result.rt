@@ -1,10 +1,10 @@
-//! The results of operations of LDAP (RFC 4511 4.1.9).
+//! Result codes of LDAP (RFC 4511 4.1.9).
 ghost use Rattle.std.specs.Prelude.{◌≡◌};
 ghost use Rattle.std.specs.Option.{option_copied};
 ghost use Rattle.der_base.specs.Names.{name_at};
 ghost use Rattle.message_text.specs.LdapResults.{attribute_results, result_names, security_results, update_results};
 
-/// The name of a result.
+/// The name of a result code.
 pub(crate) fn result_name(code: u64) -> Option<&'static str>
     ensures { option_copied result ≡ name_at result_names code }
 {
@@ -28,7 +28,7 @@ pub(crate) fn result_name(code: u64) -> Option<&'static str>
     Some(name)
 }
 
-/// The name of a result about attributes or names.
+/// The name of a result code about attributes or names.
 fn attribute_result(code: u64) -> Option<&'static str>
     ensures { option_copied result ≡ name_at attribute_results code }
 {
@@ -48,7 +48,7 @@ fn attribute_result(code: u64) -> Option<&'static str>
     Some(name)
 }
 
-/// The name of a result about access or the service.
+/// The name of a result code about access or the service.
 fn security_result(code: u64) -> Option<&'static str>
     ensures { option_copied result ≡ name_at security_results code }
 {
@@ -65,7 +65,7 @@ fn security_result(code: u64) -> Option<&'static str>
     Some(name)
 }
 
-/// The name of a result about an update.
+/// The name of a result code about an update.
 fn update_result(code: u64) -> Option<&'static str>
     ensures { option_copied result ≡ name_at update_results code }
 {

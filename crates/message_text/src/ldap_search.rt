@@ -1,4 +1,4 @@
-//! What searches of LDAP ask for (RFC 4511 4.5.1).
+//! LDAP searches (RFC 4511 4.5.1).
 ghost use Rattle.std.specs.Prelude.{◌≡◌, Some};
 ghost use Rattle.std.specs.Fmt.{DisplaysOnOk};
 ghost use Rattle.std.specs.Option.{option_copied};
@@ -8,10 +8,10 @@ ghost use Rattle.message_text.specs.Ldap.{search_text};
 
 use crate::field::{NumberField, TextField, write_fields};
 use crate::ldap_filter::FilterText;
-use ldap_reader::{FilterPart, Search};
+use messages::ldap::{FilterPart, Search};
 use std::fmt;
 
-/// Writes what a search asks for.
+/// Writes a search.
 pub(crate) fn write_search<W: fmt::Write>(
     f: &mut fmt::Formatter<W>,
     search: &Search<'_>,
@@ -23,7 +23,7 @@ pub(crate) fn write_search<W: fmt::Write>(
     write_fields(f, "Attribute", search.attributes.as_slice())
 }
 
-/// Writes where it looks, and how far.
+/// Writes the base, the scope, how aliases are followed, and the limits.
 fn write_range<W: fmt::Write>(f: &mut fmt::Formatter<W>, search: &Search<'_>) -> fmt::Result
     ensures { DisplaysOnOk W.Write.write_str_gives f.old result (Some (range_text search.now)) f.new }
 {
@@ -45,7 +45,7 @@ fn write_range<W: fmt::Write>(f: &mut fmt::Formatter<W>, search: &Search<'_>) ->
     write_limits(f, search.size_limit, search.time_limit, search.types_only)
 }
 
-/// Writes how many entries are returned, in how many seconds, and whether without values.
+/// Writes the limits of entries and seconds, and whether only types are returned.
 fn write_limits<W: fmt::Write>(
     f: &mut fmt::Formatter<W>,
     entries: u32,
@@ -70,7 +70,7 @@ fn write_filter<W: fmt::Write>(f: &mut fmt::Formatter<W>, parts: &[FilterPart<'_
     write!(f, "  Filter: {filter}\n")
 }
 
-/// Whether something is so.
+/// The text of a flag.
 pub(crate) fn flag_name(flag: bool) -> &'static str
     ensures { result.now ≡ flag_name flag }
 {

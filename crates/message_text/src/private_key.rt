@@ -3,17 +3,17 @@ ghost use Rattle.std.specs.Prelude.{◌≡◌, Some};
 ghost use Rattle.std.specs.Fmt.{DisplaysOnOk};
 ghost use Rattle.std.specs.Option.{option_map};
 ghost use Rattle.message_text.specs.PrivateKeys.{Finds, IsInside, IsPrivateKey, attributes_size, attributes_text};
-ghost use Rattle.pkcs8_reader.specs.Keys.{rsa_of, whole_rsa_key};
-ghost use Rattle.pkcs8_reader.specs.OtherKeys.{ec_of, whole_ec_key};
+ghost use Rattle.x509_keys.specs.Keys.{rsa_of, whole_rsa_key};
+ghost use Rattle.x509_keys.specs.OtherKeys.{ec_of, whole_ec_key};
 
 use crate::algorithm::AlgorithmText;
 use crate::curve_key::{CurveFields, octets_of, write_public};
-use crate::octets::Count;
 use crate::rsa::PrivateNumbers;
-use pkcs8_reader::{
+use std::fmt;
+use type_words::Count;
+use x509_keys::{
     EcPrivateKey, PrivateKeyInfo, RsaPrivateKey, read_ec_private_key, read_rsa_private_key,
 };
-use std::fmt;
 
 /// rsaEncryption: 1.2.840.113549.1.1.1 (RFC 8017 A.1).
 pub(crate) const RSA: &[u8] = b"\x2a\x86\x48\x86\xf7\x0d\x01\x01\x01";
@@ -21,17 +21,17 @@ pub(crate) const RSA: &[u8] = b"\x2a\x86\x48\x86\xf7\x0d\x01\x01\x01";
 /// id-ecPublicKey: 1.2.840.10045.2.1 (RFC 5480 2.1.1).
 const CURVE: &[u8] = b"\x2a\x86\x48\xce\x3d\x02\x01";
 
-/// What the octets of a private key are, by its algorithm.
+/// The key in the octets of a private key, by its algorithm.
 #[derive(Drop)]
 pub(crate) enum Inside<'a> {
     Rsa(RsaPrivateKey<'a>),
     Curve(CurveFields<'a>),
-    /// Octets of any other form, and how many they are.
+    /// Octets of another form, by their number.
     Other(usize),
 }
 
 impl<'a> Inside<'a> {
-    /// The key in the octets of a private key whose algorithm has this identifier.
+    /// Reads the octets of a private key, by the identifier of its algorithm.
     fn of(identifier: &[u8], octets: &'a [u8]) -> Inside<'a>
         ensures { IsInside identifier.now octets.now result }
     {
@@ -48,7 +48,7 @@ impl<'a> Inside<'a> {
 impl<'a> Inside<'a> {
     ghost use Rattle.message_text.specs.PrivateKeys.{IsCurveInside, IsRsaInside};
 
-    /// The key of RSA, if the octets are one.
+    /// Reads an RSA key, if the octets are one.
     fn of_rsa(octets: &'a [u8]) -> Inside<'a>
         ensures { IsRsaInside octets.now result }
     {
@@ -58,7 +58,7 @@ impl<'a> Inside<'a> {
         }
     }
 
-    /// The key of a curve, if the octets are one.
+    /// Reads an elliptic key, if the octets are one.
     fn of_curve(octets: &'a [u8]) -> Inside<'a>
         ensures { IsCurveInside octets.now result }
     {
@@ -69,7 +69,7 @@ impl<'a> Inside<'a> {
     }
 }
 
-/// The key of RSA that octets are, if they are one.
+/// Reads an RSA key, if the octets are one.
 fn find_rsa_key(octets: &[u8]) -> Option<RsaPrivateKey<'_>>
     ensures { Finds whole_rsa_key octets.now (option_map rsa_of result) }
 {
@@ -79,7 +79,7 @@ fn find_rsa_key(octets: &[u8]) -> Option<RsaPrivateKey<'_>>
     }
 }
 
-/// The key of a curve that octets are, if they are one.
+/// Reads an elliptic key, if the octets are one.
 fn find_curve_key(octets: &[u8]) -> Option<EcPrivateKey<'_>>
     ensures { Finds whole_ec_key octets.now (option_map ec_of result) }
 {
@@ -110,13 +110,13 @@ impl fmt::Display for Inside<'_> {
     }
 }
 
-/// The lines of a private key, but its secret numbers.
+/// The lines of a private key, without its secret numbers.
 #[derive(Drop)]
 pub struct PrivateKeyText<'a> {
     version: u32,
     algorithm: AlgorithmText<'a>,
     inside: Inside<'a>,
-    /// How many octets the attributes have.
+    /// The number of octets of the attributes.
     attributes: Option<usize>,
     public_key: Option<&'a [u8]>,
 }
@@ -136,7 +136,7 @@ impl<'a> PrivateKeyText<'a> {
     }
 }
 
-/// How many octets the attributes of a key have.
+/// The number of octets of a key's attributes.
 fn size_of(key: &PrivateKeyInfo<'_>) -> Option<usize>
     ensures { result ≡ attributes_size key.now.attributes }
 {

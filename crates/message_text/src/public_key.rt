@@ -2,25 +2,25 @@
 ghost use Rattle.std.specs.Option.{option_map};
 ghost use Rattle.message_text.specs.PrivateKeys.{Finds};
 ghost use Rattle.message_text.specs.PublicKeys.{IsPublicInside, IsPublicKey};
-ghost use Rattle.pkcs8_reader.specs.OtherKeys.{rsa_public_of, whole_rsa_public_key};
+ghost use Rattle.x509_keys.specs.OtherKeys.{rsa_public_of, whole_rsa_public_key};
 
 use crate::algorithm::AlgorithmText;
-use crate::octets::digits;
 use crate::private_key::RSA;
 use crate::rsa::PublicNumbers;
-use pkcs8_reader::{RsaPublicKey, SubjectPublicKeyInfo, read_rsa_public_key};
 use std::fmt;
+use type_words::digits;
+use x509_keys::{RsaPublicKey, SubjectPublicKeyInfo, read_rsa_public_key};
 
-/// What the bits of a public key are, by its algorithm.
+/// The key in the bits of a public key, by its algorithm.
 #[derive(Clone, Copy)]
 pub(crate) enum PublicInside<'a> {
     Rsa(PublicNumbers<'a>),
-    /// Octets of any other form.
+    /// Octets of another form.
     Other(&'a [u8]),
 }
 
 impl<'a> PublicInside<'a> {
-    /// The key in the octets of a public key whose algorithm has this identifier.
+    /// Reads the octets of a public key, by the identifier of its algorithm.
     fn of(identifier: &[u8], octets: &'a [u8]) -> PublicInside<'a>
         ensures { IsPublicInside identifier.now octets.now result }
     {
@@ -37,7 +37,7 @@ impl<'a> PublicInside<'a> {
     }
 }
 
-/// The key of RSA that octets are, if they are one.
+/// Reads an RSA key, if the octets are one.
 fn find_rsa_key(octets: &[u8]) -> Option<RsaPublicKey<'_>>
     ensures { Finds whole_rsa_public_key octets.now (option_map rsa_public_of result) }
 {

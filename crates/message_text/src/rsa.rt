@@ -1,18 +1,18 @@
-//! Keys of RSA (RFC 8017 A.1).
+//! RSA keys (RFC 8017 A.1).
 ghost use Rattle.std.specs.Prelude.{◌≡◌};
 ghost use Rattle.der_print.specs.Values.{without_leading_zero};
 ghost use Rattle.message_text.specs.RsaKeys.{bits_of, size_of};
 
 use der_print::{Limit, Number};
-use pkcs8_reader::RsaPrivateKey;
 use std::fmt;
+use x509_keys::RsaPrivateKey;
 
 /// The lines of the public numbers of a key.
 #[derive(Clone, Copy)]
 pub(crate) struct PublicNumbers<'a> {
     /// The content octets of the modulus.
     pub modulus: &'a [u8],
-    /// Those of the public exponent.
+    /// The content octets of the public exponent.
     pub exponent: &'a [u8],
 }
 
@@ -56,14 +56,14 @@ impl fmt::Display for Size<'_> {
     }
 }
 
-/// How many bits a number above 0 has, by its content octets: those from its highest 1 on.
+/// The number of bits of a number above 0, given its content octets.
 fn size_of(octets: &[u8]) -> u128
     ensures { result ≡ size_of octets.now }
 {
     bits_of(without_leading_zero(octets))
 }
 
-/// How many bits octets have from the highest 1 of the first on.
+/// The number of bits from the highest 1 of the first octet on.
 fn bits_of(octets: &[u8]) -> u128
     ensures { result ≡ bits_of octets.now }
 {
@@ -74,7 +74,7 @@ fn bits_of(octets: &[u8]) -> u128
     u128::from(highest) + 8 * others.len() as u128
 }
 
-/// The octets without one that is 0 before others.
+/// The octets without a leading zero before others.
 fn without_leading_zero(octets: &[u8]) -> &[u8]
     ensures { result.now ≡ without_leading_zero octets.now }
 {
@@ -84,7 +84,7 @@ fn without_leading_zero(octets: &[u8]) -> &[u8]
     }
 }
 
-/// The lines of a private key, but its secret numbers.
+/// The lines of a private key, without its secret numbers.
 #[derive(Clone, Copy)]
 pub(crate) struct PrivateNumbers<'r, 'a>(pub &'r RsaPrivateKey<'a>);
 
@@ -107,7 +107,7 @@ impl fmt::Display for PrivateNumbers<'_, '_> {
     }
 }
 
-/// The lines of a private key of RSA that stands alone (PKCS #1).
+/// The lines of an RSA private key on its own (PKCS #1), without its secret numbers.
 #[derive(Clone, Copy)]
 pub struct RsaKeyText<'r, 'a> {
     pub key: &'r RsaPrivateKey<'a>,

@@ -1,4 +1,4 @@
-//! The names of object identifiers.
+//! Names of object identifiers.
 #![tactic(auto)]
 
 ghost use Rattle.std.specs.Prelude.{◌≡◌, ◌++◌, ◌∷◌, IfSome, IsTrue, List, ℕ};
@@ -14,10 +14,10 @@ use std::str;
 pub use table::NAMES;
 use table::{LINES, SMALLER};
 
-/// How many hashes there are.
+/// The number of hashes.
 const HASHES: u64 = 1024;
 
-/// The most hexadecimal digits of an identifier that has a name.
+/// The most hexadecimal digits of a named identifier.
 const DIGITS: usize = 128;
 
 /// The name of the object identifier with these content octets (X.690 8.19), if it has one.
@@ -32,7 +32,7 @@ pub fn name_of(octets: &[u8]) -> Option<&'static str>
     }
 }
 
-/// A number for content octets, by which the lines are found.
+/// The hash of content octets, as in tools/identifier-names.
 fn hash_of(octets: &[u8]) -> usize {
     let mut hash: u64 = 0;
     for octet in octets {
@@ -41,7 +41,7 @@ fn hash_of(octets: &[u8]) -> usize {
     (hash % HASHES) as usize
 }
 
-/// Where the lines begin whose octets have this hash.
+/// The offsets of the lines whose octets have this hash.
 fn lines_with(hash: usize) -> &'static [u16] {
     match (SMALLER.get(hash), SMALLER.get(hash.saturating_add(1))) {
         (Some(first), Some(end)) => LINES
@@ -51,8 +51,7 @@ fn lines_with(hash: usize) -> &'static [u16] {
     }
 }
 
-/// The name on one of the lines of a table that begin at these offsets: the first that begins with these digits and a
-/// space.
+/// The name on the first of these lines that begins with these digits and a space. Lines are given by their offsets.
 fn find_name<'a>(table: &'a [u8], begins: &[u16], digits: &[u8]) -> Option<&'a str>
     ensures { IfSome result (λ name. HasLine table.now (digits.now ++ 0x20 ∷ name.now)) }
 {
@@ -64,7 +63,7 @@ fn find_name<'a>(table: &'a [u8], begins: &[u16], digits: &[u8]) -> Option<&'a s
     None
 }
 
-/// The name on the line of a table that begins at an offset, if it begins with these digits and a space.
+/// The name on the line at this offset, if it begins with these digits and a space.
 fn name_at<'a>(table: &'a [u8], begin: usize, digits: &[u8]) -> Option<&'a str>
     ensures { IfSome result (λ name. HasLine table.now (digits.now ++ 0x20 ∷ name.now)) }
 {
@@ -77,7 +76,7 @@ fn name_at<'a>(table: &'a [u8], begin: usize, digits: &[u8]) -> Option<&'a str>
     }
 }
 
-/// The name on a line behind its digits, after a space.
+/// The name after the digits and a space.
 fn name_behind(rest: &[u8]) -> Option<&str>
     ensures { IfSome result (λ name. (after : List ℕ) × (rest.now ≡ 0x20 ∷ (name.now ++ 0x0a ∷ after))) }
 {
@@ -89,7 +88,7 @@ fn name_behind(rest: &[u8]) -> Option<&str>
     text_of(name)
 }
 
-/// Whether a line begins after these octets.
+/// Returns whether a line begins after these octets.
 fn ends_line(octets: &[u8]) -> bool
     ensures { IsTrue result → EndsLine octets.now }
 {
@@ -106,7 +105,7 @@ fn text_of(octets: &[u8]) -> Option<&str>
     str::from_utf8(octets).ok()
 }
 
-/// What is before and after an octet, where it is first.
+/// The octets before and after the first such octet.
 fn split_once(text: &[u8], octet: u8) -> Option<(&[u8], &[u8])>
     ensures { IfSome result (λ x. text.now ≡ x.0.now ++ octet ∷ x.1.now) }
 {

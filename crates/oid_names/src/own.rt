@@ -1,4 +1,4 @@
-//! Names of object identifiers in a text of one's own.
+//! Names of object identifiers from the caller's own text.
 ghost use Rattle.std.specs.Prelude.{◌≡◌, ◌⊎◌, ◌++◌, IfErr, MatchResult, OnOk, Some, None, false, true, map};
 ghost use Rattle.std.specs.Option.{option_map};
 ghost use Rattle.oid_names.specs.OwnNames.{IsTable, IsWrongTable, IsNameAmong, entries_in, entry_in, entry_of};
@@ -10,12 +10,12 @@ use der_base::oid::Oid;
 use std::alloc::Global;
 use std::fmt;
 
-/// Why a text has no names.
+/// Why a text can't be read.
 #[derive(Clone, Copy, Debug, PartialEq)]
 pub enum NamesError {
-    /// The line after so many others isn't an identifier, a space and a name.
+    /// A line that isn't an identifier, a space and a name, by the number of lines before it.
     WrongLine(usize),
-    /// There was no memory.
+    /// An allocation failed.
     OutOfMemory,
 }
 
@@ -31,7 +31,7 @@ impl fmt::Display for NamesError {
     }
 }
 
-/// Why a line is no entry.
+/// Why a line can't be read.
 #[derive(Clone, Copy)]
 enum LineError {
     Wrong,
@@ -45,16 +45,15 @@ pub struct Entry<'a> {
     pub(crate) name: &'a str,
 }
 
-/// Names of identifiers, read from a text of one's own.
+/// Names of identifiers, read from the caller's own text.
 #[derive(Drop)]
 pub struct OwnNames<'a> {
     entries: Vec<Entry<'a>>,
 }
 
 impl<'a> OwnNames<'a> {
-    /// Reads lines of an identifier in dotted form, a space and its name, as `1.3.6.1.4.1.99999.1 ours`.
-    /// Blank lines and lines that begin with `#` are passed over. An error has the first line that is
-    /// neither.
+    /// Reads lines of a dotted identifier, a space and a name, such as `1.3.6.1.4.1.99999.1 ours`. Skips blank lines
+    /// and lines that begin with `#`. The error is the first other line.
     pub fn read(alloc: Global, text: &'a str) -> Result<OwnNames<'a>, NamesError>
         ensures { MatchResult result (λ names. IsTable text.now (entries_in names)) (IsWrongTable text.now) }
     {
@@ -83,8 +82,7 @@ impl<'a> OwnNames<'a> {
     }
 }
 
-/// The name of the identifier with these content octets: that of a table of one's own, if there is one and it has the
-/// identifier, or else the built-in one.
+/// The name of the identifier with these content octets: from `own`, if that has it, else from the built-in table.
 pub fn name_among<'a>(own: Option<&'a OwnNames<'a>>, octets: &[u8]) -> Option<&'a str>
     ensures { IsNameAmong (option_map (λ names. entries_in names.now) own.entry) octets.now
         (option_map (λ name. name.now) result) }
@@ -98,7 +96,7 @@ pub fn name_among<'a>(own: Option<&'a OwnNames<'a>>, octets: &[u8]) -> Option<&'
     }
 }
 
-/// Adds what a line of a text says.
+/// Adds the entry of a line, if it has one.
 fn take_line<'a>(
     alloc: Global,
     entries: &mut Vec<Entry<'a>>,
@@ -120,7 +118,7 @@ fn take_line<'a>(
     }
 }
 
-/// Whether a line says nothing.
+/// Returns whether a line has no entry.
 fn is_passed_over(content: &str) -> bool
     ensures { result ≡ is_passed_over content.now }
 {

@@ -1,7 +1,6 @@
 pub mod AmongLaws
 pub mod BelowLaws
 pub mod FirstLaws
-pub mod IdentifierLaws
 pub mod MailboxLaws
 pub mod MarkLaws
 pub mod PositionLaws

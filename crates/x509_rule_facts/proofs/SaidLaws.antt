@@ -1,6 +1,7 @@
 -- What was read of a value is all that it says.
 use Rattle.std.proofs.Common.{◌≡◌, Bool, true, false, IsTrue, Ok, Err, refl, sym, subst, ◌∙◌}
-use Rattle.std.specs.Prelude.{◌↔◌, not}
+use Rattle.std.specs.Prelude.{◌↔◌, not, Result}
+use Rattle.std.specs.Result.{is_ok}
 use Rattle.std.proofs.lemmas.Bool.{false≢true}
 use Rattle.der_cursor.specs.Formats.{Never, ReadsWhole}
 
@@ -20,6 +21,11 @@ module _ {T V E : Type 0} {IsSo : V → Type 0} {view : T → V} where
 
   pub not_readable : {e : E} → ReadsWhole {E = E} IsSo view Never (Err e) → IsTrue false ↔ ((v : V) × IsSo v)
   not_readable r = (λ h. absurd (false≢true h), λ s. absurd (r.only s.0 s.1))
+
+  -- whether there is one is whether it was read
+  pub is_readable : (r : Result T E) {b : Bool} → ReadsWhole {E = E} IsSo view Never r → b ≡ is_ok r → IsTrue b ↔ ((v : V) × IsSo v)
+  is_readable (Ok x) r e = subst (λ b. IsTrue b ↔ ((v : V) × IsSo v)) (sym e) (readable r)
+  is_readable (Err x) r e = subst (λ b. IsTrue b ↔ ((v : V) × IsSo v)) (sym e) (not_readable r)
 
 -- a test that returns a bit
 pub by_value : {a b : Bool} → a ≡ b → IsTrue a ↔ (b ≡ true)

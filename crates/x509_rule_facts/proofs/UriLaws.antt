@@ -1,5 +1,6 @@
 -- Octets that texts begin with, and host names with a final dot.
-use Rattle.std.proofs.Common.{◌≡◌, ◌≢◌, ℕ, Bool, false, IsTrue, List, [], ◌∷◌, ◌++◌, sym, ap, subst, ◌∙◌}
+use Rattle.std.proofs.Common.{◌≡◌, ◌≢◌, ℕ, Bool, true, false, IsTrue, List, [], ◌∷◌, ◌++◌, sym, ap, subst, ◌∙◌}
+use mathlib.Core.Bool.{not}
 use Rattle.std.specs.Prelude.{◌↔◌}
 use Rattle.std.specs.List.{IsLastAndRest}
 use Rattle.std.proofs.lemmas.Bool.{false≢true}
@@ -36,3 +37,8 @@ module _ (P : List ℕ → Type 0) (a : ℕ) {w : List ℕ} where
 
   pub begins_twice_not : ((x : List ℕ) → w ≢ a ∷ a ∷ x) → IsTrue false ↔ ((y : List ℕ) × (w ≡ a ∷ a ∷ y) × P y)
   begins_twice_not n = (λ h. absurd (false≢true h), λ s. absurd (n s.0 s.1))
+
+-- the same octets are none of P, where a test says that they are none
+pub is_none : (P : List ℕ → Type 0) {x w : List ℕ} {r : Bool} → x ≡ w → IsTrue r ↔ P x → IsTrue (not r) ↔ (P w → ⊥)
+is_none P {r = true} e t = (λ h q. absurd (false≢true h), λ n. absurd (n (subst P e (t.0 cc))))
+is_none P {r = false} e t = (λ h q. absurd (false≢true (t.1 (subst P (sym e) q))), λ n. cc)

@@ -1,6 +1,6 @@
 -- The parameters of algorithms (RFC 3279, RFC 4055, RFC 5480, RFC 5758, RFC 8410).
 use Rattle.std.specs.Prelude.{◌≡◌, ◌≢◌, ◌≤◌, ◌⊎◌, ◌++◌, ◌∷◌, ℕ, List, []}
-use Rattle.der_x509.specs.Certificates.{Algorithm, Signed}
+use Rattle.x509.specs.Certificates.{Algorithm, Signed}
 use Rattle.x509_rule_facts.specs.declared.algorithms.AlgorithmRule.{AlgorithmRule}
 use Rattle.x509_rule_facts.specs.declared.algorithms.AlgorithmRule.TheVariants as rule
 

@@ -4,9 +4,9 @@ use Rattle.std.specs.Prelude.{IfSome, Option, Some, None, List, [], ◌∷◌, l
 use Rattle.std.specs.List.{count_by}
 use Rattle.der_base.specs.declared.header.Class.TheVariants.{Universal}
 use Rattle.der_cursor.specs.Elements.{Element}
-use Rattle.der_x509.specs.Certificates.{Attribute, Signed, attribute}
-use Rattle.der_x509.specs.Formats.{set}
-use Rattle.der_x509.specs.Lists.{Somewhere}
+use Rattle.x509.specs.Certificates.{Attribute, Signed, attribute}
+use Rattle.x509.specs.Formats.{set}
+use Rattle.x509.specs.Lists.{Somewhere}
 use Rattle.x509_rule_facts.specs.declared.attributes.AttributeKind.{AttributeKind}
 use Rattle.x509_rule_facts.specs.declared.attributes.AttributeKind.TheVariants as kind
 use Rattle.x509_rule_facts.specs.declared.attributes.StringKind.{StringKind}

@@ -4,7 +4,6 @@ pub mod Constraints
 pub mod Firsts
 pub mod HostNames
 pub mod Identified
-pub mod Identifiers
 pub mod Lists
 pub mod Mailboxes
 pub mod Types

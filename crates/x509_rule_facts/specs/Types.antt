@@ -1,7 +1,7 @@
 -- The types that the values of extensions are of, by DER.
 use Rattle.std.specs.Prelude.{ℕ, List}
 use Rattle.der_base.specs.declared.rules.Rules.TheVariants.{Der}
-use Rattle.crl_reader.specs.Reasons.{CRLReason}
+use Rattle.x509.specs.Crl.Reasons.{CRLReason}
 use Rattle.der_cursor.specs.Formats.{Format, GeneralizedTime, Integer, Null, OctetString, Only, Required}
 use Rattle.der_extensions.specs.Extensions.{AuthorityInfoAccessSyntax, AuthorityKeyIdentifier, BasicConstraints}
 use Rattle.der_extensions.specs.Extensions.{CRLDistributionPoints, CertificatePolicies, ExtKeyUsageSyntax, KeyUsage}
@@ -36,8 +36,6 @@ IsOfType kind.DirectoryAttributes w = IsValueOf SubjectDirectoryAttributes w
 IsOfType kind.PolicyConstraints w = IsValueOf PolicyConstraints w
 IsOfType kind.IssuingPoint w = IsValueOf IssuingDistributionPoint w
 IsOfType kind.Statements w = IsValueOf QCStatements w
-IsOfType kind.NoCheck w = IsValueOf Null w
-IsOfType kind.Poison w = IsValueOf Null w
 IsOfType kind.Timestamps w = IsValueOf Timestamps w
 IsOfType kind.Features w = IsValueOf Features w
-IsOfType kind.NoRevAvail w = IsValueOf Null w
+IsOfType kind.Null w = IsValueOf Null w

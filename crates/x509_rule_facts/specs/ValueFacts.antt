@@ -1,14 +1,14 @@
--- What the values of extensions say, by their ASN.1 in `der_extensions` and `crl_reader`.
+-- What the values of extensions say, by their ASN.1 in `der_extensions` and `x509::crl`.
 use Rattle.std.specs.Prelude.{◌≡◌, ◌≢◌, ℕ, true, None, List, [], ◌∷◌}
-use Rattle.crl_reader.specs.declared.reason.Reason.TheVariants as reason
-use Rattle.crl_reader.specs.Reasons.{CRLReason}
+use Rattle.x509.specs.declared.crl.reason.Reason.TheVariants as reason
+use Rattle.x509.specs.Crl.Reasons.{CRLReason}
 use Rattle.der_cursor.specs.Formats.{ObjectIdentifier, Required}
 use Rattle.der_extensions.specs.Extensions.{AccessDescription, AccessValue, AuthorityInfoAccessSyntax}
 use Rattle.der_extensions.specs.Extensions.{AuthorityKeyIdentifier, BasicConstraints, ExtKeyUsageSyntax, KeyUsage}
 use Rattle.der_extensions.specs.GeneralNames.{GeneralName, GeneralNames, NameValue, rfc822_name}
 use Rattle.der_values.specs.Kinds.{is_bit_set}
-use Rattle.x509_rule_facts.specs.declared.known.KnownExtension.{KnownExtension}
-use Rattle.x509_rule_facts.specs.declared.known.KnownExtension.TheVariants as known
+use Rattle.der_extensions.specs.declared.known.KnownExtension.{KnownExtension}
+use Rattle.der_extensions.specs.declared.known.KnownExtension.TheVariants as known
 use Rattle.x509_rule_facts.specs.declared.value_facts.ValueFact.{ValueFact}
 use Rattle.x509_rule_facts.specs.declared.value_facts.ValueFact.TheVariants.{Authority, PathLength, KeyCertSign}
 use Rattle.x509_rule_facts.specs.declared.value_facts.ValueFact.TheVariants.{CrlSign, KeyIdentifier, AnyPurpose}

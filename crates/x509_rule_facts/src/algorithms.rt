@@ -1,15 +1,14 @@
 //! The parameters of algorithms (RFC 3279, RFC 4055, RFC 5480, RFC 5758, RFC 8410).
 ghost use Rattle.std.specs.Prelude.{◌≡◌, ◌⊎◌, ◌↔◌, ◌≤◌, IsTrue};
-ghost use Rattle.der_x509.specs.Certificates.{algorithm_of, certificate_of};
+ghost use Rattle.x509.specs.Certificates.{algorithm_of, certificate_of};
 ghost use Rattle.x509_rule_facts.specs.Algorithms.{BeginsIdentifier, BreaksAlgorithm, BreaksInKey, BreaksInSignature};
 ghost use Rattle.x509_rule_facts.specs.Algorithms.{BreaksParameters, IsBelow, IsCurve, IsDsa, IsEcdsa, IsEdwards};
 ghost use Rattle.x509_rule_facts.specs.Algorithms.{IsPss, IsRsa};
 
-use crate::identifier::absolute_octets;
-use der_x509::{AlgorithmIdentifier, Certificate};
+use x509::{AlgorithmIdentifier, Certificate, absolute_octets};
 
-/// A rule about the parameters of the algorithms that a certificate names (RFC 5280 4.1.1.2, 4.1.2.7): of its
-/// signature, which is said twice, and of its key.
+/// A rule about the parameters of a certificate's algorithms: of the signature, which is given twice, and of the key
+/// (RFC 5280 4.1.1.2, 4.1.2.7).
 #[derive(Clone, Copy, Debug, PartialEq)]
 pub enum AlgorithmRule {
     /// The parameters of an RSA key, and of a signature of RSA that isn't RSASSA-PSS, are NULL (RFC 3279 2.2.1 and
@@ -28,28 +27,28 @@ pub enum AlgorithmRule {
 /// The content octets of pkcs-1, 1.2.840.113549.1.1.
 const PKCS_1: &[u8] = b"\x2a\x86\x48\x86\xf7\x0d\x01\x01";
 
-/// Those of 1.2.840.10040.4, below which is a signature of DSA with SHA-1.
+/// 1.2.840.10040.4, the arc above DSA with SHA-1.
 const DSA: &[u8] = b"\x2a\x86\x48\xce\x38\x04";
 
-/// Those of sigAlgs, 2.16.840.1.101.3.4.3, below which are signatures of DSA with SHA-224 and SHA-256.
+/// sigAlgs, 2.16.840.1.101.3.4.3, the arc above DSA with SHA-224 and SHA-256.
 const DSA_WITH_SHA2: &[u8] = b"\x60\x86\x48\x01\x65\x03\x04\x03";
 
-/// Those of id-ecSigType, 1.2.840.10045.4, below which is a signature of ECDSA with SHA-1.
+/// id-ecSigType, 1.2.840.10045.4, the arc above ECDSA with SHA-1.
 const ECDSA: &[u8] = b"\x2a\x86\x48\xce\x3d\x04";
 
-/// Those of ecdsa-with-SHA2, 1.2.840.10045.4.3.
+/// ecdsa-with-SHA2, 1.2.840.10045.4.3.
 const ECDSA_WITH_SHA2: &[u8] = b"\x2a\x86\x48\xce\x3d\x04\x03";
 
-/// Those of id-edwards-curve-algs, 1.3.101.
+/// id-edwards-curve-algs, 1.3.101.
 const EDWARDS: &[u8] = b"\x2b\x65";
 
-/// Those of id-publicKeyType, 1.2.840.10045.2.
+/// id-publicKeyType, 1.2.840.10045.2.
 const CURVE_KEY: &[u8] = b"\x2a\x86\x48\xce\x3d\x02";
 
-/// Those of 1.3.132.1, below which are id-ecDH and id-ecMQV.
+/// 1.3.132.1, the arc above id-ecDH and id-ecMQV.
 const CURVE_SCHEMES: &[u8] = b"\x2b\x81\x04\x01";
 
-/// The element that is NULL.
+/// The encoding of NULL.
 const NULL: &[u8] = b"\x05\x00";
 
 /// The identifier octet of an OBJECT IDENTIFIER.
@@ -71,7 +70,7 @@ pub fn breaks_algorithm(rule: AlgorithmRule, certificate: &Certificate<'_>) -> b
     }
 }
 
-/// Whether an algorithm of the signature or that of the key breaks the rule.
+/// Whether an algorithm of the signature or of the key breaks the rule.
 fn breaks_anywhere(rule: AlgorithmRule, certificate: &Certificate<'_>) -> bool
     ensures { IsTrue result ↔ (BreaksInSignature rule (certificate_of certificate.now)
         ⊎ BreaksInKey rule (certificate_of certificate.now)) }
@@ -95,7 +94,7 @@ fn breaks_in_key(rule: AlgorithmRule, certificate: &Certificate<'_>) -> bool
     breaks_parameters(rule, &key.algorithm)
 }
 
-/// Whether an algorithm has other parameters than the rule says.
+/// Whether the parameters of an algorithm break the rule.
 fn breaks_parameters(rule: AlgorithmRule, algorithm: &AlgorithmIdentifier<'_>) -> bool
     ensures { IsTrue result ↔ BreaksParameters rule (algorithm_of algorithm.now) }
 {
@@ -150,7 +149,7 @@ fn is_curve(octets: &[u8]) -> bool
     is_below(CURVE_KEY, 1, 1, octets) || is_below(CURVE_SCHEMES, 12, 13, octets)
 }
 
-/// Whether an identifier has one more arc than these, from `low` to `high`.
+/// Whether an identifier is these arcs and one more, from `low` to `high`.
 fn is_below(arcs: &[u8], low: u8, high: u8, octets: &[u8]) -> bool
     ensures { IsTrue result ↔ IsBelow arcs.now low high octets.now }
 {

@@ -1,21 +1,21 @@
-//! Attributes of names, and the strings that their values are (RFC 5280 A.1).
+//! Attributes of names, and the string types of their values (RFC 5280 A.1).
 ghost use Rattle.std.specs.Prelude.{◌≡◌, ◌<◌, ◌↔◌, IsTrue, length, true};
 ghost use Rattle.std.specs.List.{count_by};
 ghost use Rattle.der_cursor.specs.Elements.{element_of};
-ghost use Rattle.der_x509.specs.Certificates.{attribute, attribute_of, certificate_of};
-ghost use Rattle.der_x509.specs.Lists.{Somewhere};
+ghost use Rattle.x509.specs.Certificates.{attribute, attribute_of, certificate_of};
+ghost use Rattle.x509.specs.Lists.{Somewhere};
 ghost use Rattle.x509_rule_facts.specs.Attributes.{AreBadKinds, FitsKind, HasBadAttribute, HasKind, HasMistyped};
 ghost use Rattle.x509_rule_facts.specs.Attributes.{IsBad, IsMarked, IsMistyped, IsOfKind, IsString, Marks};
 ghost use Rattle.x509_rule_facts.specs.Attributes.{begins_character, character_count, kind_count, kind_number};
 ghost use Rattle.x509_rule_facts.specs.Attributes.{kind_octets, least_of, most_of, string_of, IsSelfIssued};
 
 use crate::identified::attribute_kind;
-use crate::identifier::{absolute_octets, has_octets};
+use crate::identifier::has_octets;
 use der_base::any::Any;
 use der_base::header::{Class, Tag};
-use der_x509::{AttributeTypeAndValue, Certificate, Name, RelativeDistinguishedName};
+use x509::{AttributeTypeAndValue, Certificate, Name, RelativeDistinguishedName, absolute_octets};
 
-/// An attribute whose value RFC 5280 gives a type and a size.
+/// An attribute with a type and a size in RFC 5280 A.1.
 #[derive(Clone, Copy, Debug, PartialEq)]
 pub enum AttributeKind {
     /// countryName, PrintableString of 2 characters (2.5.4.6).
@@ -54,7 +54,7 @@ pub enum AttributeKind {
     GenerationQualifier,
 }
 
-/// The strings that a value may be.
+/// The string types that a value may have.
 #[derive(Clone, Copy, Debug, PartialEq)]
 pub enum StringKind {
     /// PrintableString.
@@ -65,11 +65,11 @@ pub enum StringKind {
     Directory,
 }
 
-/// How many kinds there are.
+/// The number of kinds.
 pub const ATTRIBUTE_KINDS: usize = 17;
 
 impl AttributeKind {
-    /// The content octets of its identifier.
+    /// The content octets of the identifier.
     pub fn identifier(self) -> &'static [u8]
         ensures { result.now ≡ kind_octets self }
     {
@@ -94,7 +94,7 @@ impl AttributeKind {
         }
     }
 
-    /// Which strings its value may be.
+    /// The string types that the value may have.
     pub fn string(self) -> StringKind
         ensures { result ≡ string_of self }
     {
@@ -119,7 +119,7 @@ impl AttributeKind {
         }
     }
 
-    /// How many characters its value has at least.
+    /// The fewest characters of the value.
     fn least(self) -> usize
         ensures { result ≡ least_of self }
     {
@@ -144,7 +144,7 @@ impl AttributeKind {
         }
     }
 
-    /// How many it has at most, if RFC 5280 says so.
+    /// The most characters of the value, if RFC 5280 has a limit.
     fn most(self) -> Option<usize>
         ensures { result ≡ most_of self }
     {
@@ -169,7 +169,7 @@ impl AttributeKind {
         }
     }
 
-    /// Its place in the order above, from 0.
+    /// The position in the order above, from 0.
     pub fn number(self) -> usize
         ensures number { result ≡ kind_number self }
         ensures few { result < kind_count }
@@ -196,8 +196,8 @@ impl AttributeKind {
     }
 }
 
-/// Returns of which kinds the issuer or the subject has an attribute whose value isn't of its type. A name that is both
-/// is looked at once.
+/// Returns for each kind whether the issuer or the subject has an attribute of it with a value of another type. Equal
+/// names are read once.
 #[inline(never)]
 pub fn bad_kinds(certificate: &Certificate<'_>) -> [bool; ATTRIBUTE_KINDS]
     ensures { AreBadKinds (certificate_of certificate.now) result }
@@ -211,7 +211,7 @@ pub fn bad_kinds(certificate: &Certificate<'_>) -> [bool; ATTRIBUTE_KINDS]
     bad
 }
 
-/// Returns whether issuer and subject are the same octets.
+/// Returns whether issuer and subject have the same octets.
 #[inline]
 pub fn is_self_issued(certificate: &Certificate<'_>) -> bool
     ensures { IsTrue result ↔ IsSelfIssued (certificate_of certificate.now) }
@@ -219,7 +219,7 @@ pub fn is_self_issued(certificate: &Certificate<'_>) -> bool
     certificate.tbs_certificate.issuer.octets == certificate.tbs_certificate.subject.octets
 }
 
-/// Marks the kinds of which the name has such an attribute.
+/// Marks the kinds of which the name has an attribute with a value of another type.
 fn mark_name(bad: &mut [bool; ATTRIBUTE_KINDS], name: Name<'_>)
     requires { length bad.old ≡ kind_count }
     ensures { Marks (λ k. HasBadAttribute k name.entry.octets.now) bad.old bad.new }
@@ -229,7 +229,7 @@ fn mark_name(bad: &mut [bool; ATTRIBUTE_KINDS], name: Name<'_>)
     }
 }
 
-/// Marks the kinds of which the relative name has such an attribute.
+/// Marks the kinds of which the relative name has an attribute with a value of another type.
 fn mark_relative_name(bad: &mut [bool; ATTRIBUTE_KINDS], name: RelativeDistinguishedName<'_>)
     requires { length bad.old ≡ kind_count }
     ensures { Marks (λ k. Somewhere attribute (λ a _. IsBad k a) name.entry.octets.now) bad.old bad.new }
@@ -239,7 +239,7 @@ fn mark_relative_name(bad: &mut [bool; ATTRIBUTE_KINDS], name: RelativeDistingui
     }
 }
 
-/// Marks the kind of the attribute, if its value isn't of the type.
+/// Marks the kind of the attribute, if its value has another type.
 fn mark_attribute(bad: &mut [bool; ATTRIBUTE_KINDS], attribute: &AttributeTypeAndValue<'_>)
     requires { length bad.old ≡ kind_count }
     ensures { Marks (λ k. IsBad k (attribute_of attribute.now)) bad.old bad.new }
@@ -283,7 +283,7 @@ fn is_attribute(kind: AttributeKind, attribute: &AttributeTypeAndValue<'_>) -> b
     has_octets(&attribute.identifier, kind.identifier())
 }
 
-/// Returns whether the name has an attribute whose value isn't of its type.
+/// Returns whether the name has an attribute with a value of another type than its kind's.
 pub fn has_mistyped(name: Name<'_>) -> bool
     ensures { IsTrue result ↔ HasMistyped name.entry.octets.now }
 {
@@ -295,7 +295,7 @@ pub fn has_mistyped(name: Name<'_>) -> bool
     false
 }
 
-/// Returns whether the relative name has such an attribute.
+/// Returns whether the relative name has an attribute with a value of another type than its kind's.
 fn has_mistyped_attribute(name: RelativeDistinguishedName<'_>) -> bool
     ensures { IsTrue result ↔ Somewhere attribute (λ a _. IsMistyped a) name.entry.octets.now }
 {
@@ -307,7 +307,7 @@ fn has_mistyped_attribute(name: RelativeDistinguishedName<'_>) -> bool
     false
 }
 
-/// Returns whether the attribute is of a kind, and its value isn't of the type.
+/// Returns whether the attribute has a kind and a value of another type.
 fn is_mistyped(attribute: &AttributeTypeAndValue<'_>) -> bool
     ensures { IsTrue result ↔ IsMistyped (attribute_of attribute.now) }
 {
@@ -326,7 +326,7 @@ pub fn is_marked(bad: &[bool; ATTRIBUTE_KINDS], kind: AttributeKind) -> bool
     bad[kind.number()]
 }
 
-/// Returns whether the value is of the type of the kind.
+/// Returns whether the value has the type and size of the kind.
 fn is_of_kind(kind: AttributeKind, value: &Any<'_>) -> bool
     ensures { IsTrue result ↔ IsOfKind kind (element_of value.now) }
 {
@@ -336,8 +336,8 @@ fn is_of_kind(kind: AttributeKind, value: &Any<'_>) -> bool
         && fits_kind(kind, count_characters(value.tag(), value.bytes))
 }
 
-/// Returns whether the type with this number is one of the strings.
-fn is_string(kind: StringKind, tag: Tag) -> bool
+/// Returns whether the type is one of these string types.
+pub fn is_string(kind: StringKind, tag: Tag) -> bool
     ensures { IsTrue result ↔ IsString kind tag.0 }
 {
     match kind {
@@ -349,7 +349,7 @@ fn is_string(kind: StringKind, tag: Tag) -> bool
     }
 }
 
-/// Returns whether a value of so many characters is one of the kind.
+/// Returns whether the kind allows `count` characters.
 fn fits_kind(kind: AttributeKind, count: usize) -> bool
     ensures { IsTrue result ↔ FitsKind kind count }
 {
@@ -359,7 +359,7 @@ fn fits_kind(kind: AttributeKind, count: usize) -> bool
     }
 }
 
-/// Returns how many characters the octets of a string are.
+/// Returns the number of characters of a string.
 pub fn count_characters(tag: Tag, octets: &[u8]) -> usize
     ensures { result ≡ character_count tag.0 octets.now }
 {
@@ -371,7 +371,7 @@ pub fn count_characters(tag: Tag, octets: &[u8]) -> usize
     }
 }
 
-/// Returns how many characters begin in octets of UTF-8.
+/// Returns the number of characters in octets of UTF-8.
 fn count_utf8(octets: &[u8]) -> usize
     ensures { result ≡ count_by begins_character octets.now }
 {
@@ -384,7 +384,7 @@ fn count_utf8(octets: &[u8]) -> usize
     count
 }
 
-/// Returns whether the octet isn't a later one of a character: those are 0x80 to 0xbf.
+/// Returns whether the octet begins a character; continuation octets are 0x80 to 0xbf.
 fn begins_character(octet: u8) -> bool
     ensures { result ≡ begins_character octet }
 {

@@ -1,4 +1,4 @@
-//! The forms that names have in constraints (RFC 5280 4.2.1.10).
+//! The forms of names in constraints (RFC 5280 4.2.1.10).
 ghost use Rattle.std.specs.Prelude.{◌≡◌, ◌↔◌, ◌≤◌, ◌==◌, ◌/◌, IsTrue, drop, length, not};
 ghost use Rattle.std.specs.List.{list_all, position_or_len};
 ghost use Rattle.x509_rule_facts.specs.Constraints.{EndsInMask, EndsMask, IsDomainPart, IsHostOrDomain, IsMask};
@@ -6,10 +6,10 @@ ghost use Rattle.x509_rule_facts.specs.Constraints.{behind_ones, is_edge};
 
 use crate::host_name::is_host_name;
 
-/// The octets that have bits 1 and then bits 0, one at least.
+/// The octets with bits 1 and then bits 0, at least one 0.
 const EDGES: &[u8] = b"\x00\x80\xc0\xe0\xf0\xf8\xfc\xfe";
 
-/// Returns whether the text is the name of a host, or that of a domain with a dot before it.
+/// Returns whether the text is a host name, or a dot and a domain name.
 pub fn is_host_or_domain(text: &[u8]) -> bool
     ensures { IsTrue result ↔ IsHostOrDomain text.now }
 {
@@ -25,7 +25,7 @@ fn is_domain_part(text: &[u8]) -> bool
     }
 }
 
-/// Returns whether the second half of the octets of an address is a mask.
+/// Returns whether the second half of the octets is a mask.
 pub fn ends_in_mask(octets: &[u8]) -> bool
     ensures { IsTrue result ↔ EndsInMask octets.now }
 {
@@ -38,14 +38,14 @@ fn second_half(octets: &[u8]) -> &[u8]
     &octets[octets.len() / 2..]
 }
 
-/// Returns whether the octets have bits 1 and then bits 0.
+/// Returns whether the octets are bits 1 and then bits 0.
 fn is_mask(octets: &[u8]) -> bool
     ensures { IsTrue result ↔ IsMask octets.now }
 {
     ends_mask(behind_ones(octets))
 }
 
-/// Returns whether the octets are those of a mask behind the first that has a bit 0.
+/// Returns whether the octets after the leading ones are the end of a mask.
 fn ends_mask(octets: &[u8]) -> bool
     ensures { IsTrue result ↔ EndsMask octets.now }
 {
@@ -55,7 +55,7 @@ fn ends_mask(octets: &[u8]) -> bool
     }
 }
 
-/// Returns whether the octet has bits 1 and then bits 0, one at least.
+/// Returns whether the octet is bits 1 and then bits 0, at least one 0.
 fn is_edge(octet: u8) -> bool
     ensures { result ≡ is_edge octet }
 {
@@ -68,14 +68,14 @@ fn are_zeros(octets: &[u8]) -> bool
     octets.iter().all(|octet| *octet == 0)
 }
 
-/// What is behind the octets of which each bit is 1.
+/// The octets after the leading ones with all bits 1.
 fn behind_ones(octets: &[u8]) -> &[u8]
     ensures { result.now ≡ behind_ones octets.now }
 {
     &octets[ones_end(octets)..]
 }
 
-/// How many octets are of bits 1.
+/// The number of leading octets with all bits 1.
 fn ones_end(octets: &[u8]) -> usize
     ensures first { result ≡ position_or_len (λ b. not (b == 255)) octets.now }
     ensures within { result ≤ length octets.now }

@@ -1,20 +1,24 @@
-//! The syntax of host names (RFC 1034 3.5 and RFC 1123 2.1, for RFC 5280 4.2.1.6).
-ghost use Rattle.std.specs.Prelude.{◌≡◌, ◌-◌, ◌↔◌, IsTrue, length, slice_get};
-ghost use Rattle.std.specs.List.{list_all};
+//! The syntax of host names (RFC 1034 3.1, 3.5 and RFC 1123 2.1, for RFC 5280 4.2.1.6).
+ghost use Rattle.std.specs.Prelude.{◌≡◌, ◌-◌, ◌==◌, ◌↔◌, IsTrue, length, slice_get};
+ghost use Rattle.std.specs.List.{list_all, slice_split};
 ghost use Rattle.x509_rule_facts.specs.HostNames.{IsPreferredName, IsWildcardName, is_host_name, is_label};
-ghost use Rattle.x509_rule_facts.specs.HostNames.{is_label_character, is_let_dig};
+ghost use Rattle.x509_rule_facts.specs.HostNames.{is_label_character, is_let_dig, is_name_size};
+
+/// The most characters of a name. Its labels, each with a length octet, and the root have at most 255 octets (RFC 1034
+/// 3.1).
+const LONGEST_NAME: usize = 253;
 
 /// The most characters of a label.
 const LONGEST_LABEL: usize = 63;
 
-/// The name of one space.
+/// The name " ".
 const BLANK: &[u8] = b" ";
 
-/// Returns whether the text is in the preferred name syntax, or what is behind a leading "*." is.
+/// Returns whether the text is in the preferred name syntax, perhaps after a leading "*.".
 pub fn is_preferred_name(text: &[u8]) -> bool
     ensures { IsTrue result ↔ IsPreferredName text.now }
 {
-    text == BLANK || is_host_name(text) || is_wildcard_name(text)
+    text == BLANK || is_host_name(text) || (is_name_size(text) && is_wildcard_name(text))
 }
 
 /// Returns whether the text is "*." and a host name.
@@ -27,15 +31,28 @@ fn is_wildcard_name(text: &[u8]) -> bool
     }
 }
 
-/// Returns whether each part between dots is a label.
+/// Returns whether each part between dots is a label, and the name isn't too long.
 pub fn is_host_name(text: &[u8]) -> bool
     ensures { result ≡ is_host_name text.now }
+{
+    is_name_size(text) && are_labels(text)
+}
+
+fn is_name_size(text: &[u8]) -> bool
+    ensures { result ≡ is_name_size text.now }
+{
+    text.len() <= LONGEST_NAME
+}
+
+/// Returns whether each part between dots is a label.
+fn are_labels(text: &[u8]) -> bool
+    ensures { result ≡ list_all is_label (slice_split (λ b. b == 46) text.now) }
 {
     text.split(|octet| *octet == b'.')
         .all(|label| is_label(label))
 }
 
-/// Returns whether it is a label: letters, digits and hyphens, with no hyphen at an end, to 63 characters.
+/// Returns whether it is a label: letters, digits and inner hyphens, up to 63 characters.
 fn is_label(label: &[u8]) -> bool
     ensures { result ≡ is_label label.now }
 {
@@ -72,7 +89,7 @@ fn is_label_character(octet: u8) -> bool
     octet.is_ascii_alphanumeric() || octet == b'-'
 }
 
-/// Returns whether there is an octet that is a letter or a digit.
+/// Returns whether the octet is there and is a letter or a digit.
 fn is_let_dig(octet: Option<u8>) -> bool
     ensures { result ≡ is_let_dig octet }
 {

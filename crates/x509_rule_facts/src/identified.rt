@@ -1,99 +1,11 @@
-//! Which extension or attribute an identifier is of.
+//! Attributes by their identifier.
 ghost use Rattle.std.specs.Prelude.{◌≡◌, Some};
 ghost use Rattle.x509_rule_facts.specs.Attributes.{id_at, kind_octets};
-ghost use Rattle.x509_rule_facts.specs.Identified.{IdentifiesExtension, IdentifiesKind};
-ghost use Rattle.x509_rule_facts.specs.Identifiers.{id_ce, id_pe, octets_of, transparency};
+ghost use Rattle.x509_rule_facts.specs.Identified.{IdentifiesKind};
 
 use crate::attributes::AttributeKind;
-use crate::known::KnownExtension;
 
-/// Returns the extension whose identifier has these content octets.
-#[inline]
-pub fn known_extension(octets: &[u8]) -> Option<KnownExtension>
-    ensures { IdentifiesExtension octets.now result }
-{
-    let Some(known) = likely_extension(octets) else {
-        return None;
-    };
-    if known.identifier() == octets {
-        Some(known)
-    } else {
-        None
-    }
-}
-
-/// Returns the only one that it can be, by the number of the octets and the last one.
-fn likely_extension(octets: &[u8]) -> Option<KnownExtension>
-    ensures { (k : KnownExtension) → octets.now ≡ octets_of k → result ≡ Some k }
-{
-    let Some(last) = octets.last() else {
-        return None;
-    };
-    match octets.len() {
-        3 => id_ce_extension(*last),
-        8 => id_pe_extension(*last),
-        9 => Some(KnownExtension::OcspNoCheck),
-        10 => transparency_extension(*last),
-        _ => None,
-    }
-}
-
-/// Returns the extension below id-ce whose identifier ends in this octet.
-fn id_ce_extension(last: u8) -> Option<KnownExtension>
-    ensures { IdentifiesExtension (id_ce last) result }
-{
-    match last {
-        0x23 => Some(KnownExtension::AuthorityKeyIdentifier),
-        0x0e => Some(KnownExtension::SubjectKeyIdentifier),
-        0x0f => Some(KnownExtension::KeyUsage),
-        0x20 => Some(KnownExtension::CertificatePolicies),
-        0x21 => Some(KnownExtension::PolicyMappings),
-        0x11 => Some(KnownExtension::SubjectAltName),
-        0x12 => Some(KnownExtension::IssuerAltName),
-        0x09 => Some(KnownExtension::SubjectDirectoryAttributes),
-        0x13 => Some(KnownExtension::BasicConstraints),
-        0x1e => Some(KnownExtension::NameConstraints),
-        0x24 => Some(KnownExtension::PolicyConstraints),
-        0x25 => Some(KnownExtension::ExtendedKeyUsage),
-        0x1f => Some(KnownExtension::CrlDistributionPoints),
-        0x36 => Some(KnownExtension::InhibitAnyPolicy),
-        0x2e => Some(KnownExtension::FreshestCrl),
-        0x14 => Some(KnownExtension::CrlNumber),
-        0x1b => Some(KnownExtension::DeltaCrlIndicator),
-        0x1c => Some(KnownExtension::IssuingDistributionPoint),
-        0x15 => Some(KnownExtension::ReasonCode),
-        0x18 => Some(KnownExtension::InvalidityDate),
-        0x1d => Some(KnownExtension::CertificateIssuer),
-        0x38 => Some(KnownExtension::NoRevAvail),
-        _ => None,
-    }
-}
-
-/// Returns the extension below id-pe whose identifier ends in this octet.
-fn id_pe_extension(last: u8) -> Option<KnownExtension>
-    ensures { IdentifiesExtension (id_pe last) result }
-{
-    match last {
-        0x01 => Some(KnownExtension::AuthorityInfoAccess),
-        0x0b => Some(KnownExtension::SubjectInfoAccess),
-        0x03 => Some(KnownExtension::QcStatements),
-        0x18 => Some(KnownExtension::TlsFeature),
-        _ => None,
-    }
-}
-
-/// Returns the extension of RFC 6962 whose identifier ends in this octet.
-fn transparency_extension(last: u8) -> Option<KnownExtension>
-    ensures { IdentifiesExtension (transparency last) result }
-{
-    match last {
-        0x03 => Some(KnownExtension::PrecertificatePoison),
-        0x02 => Some(KnownExtension::SignedCertificateTimestamps),
-        _ => None,
-    }
-}
-
-/// Returns the kind of attributes whose identifier has these content octets.
+/// Returns the kind of attribute with this identifier, given its content octets.
 pub(crate) fn attribute_kind(octets: &[u8]) -> Option<AttributeKind>
     ensures { IdentifiesKind octets.now result }
 {
@@ -107,7 +19,7 @@ pub(crate) fn attribute_kind(octets: &[u8]) -> Option<AttributeKind>
     }
 }
 
-/// Returns the only one that it can be, by the number of the octets and the last one.
+/// Returns the only candidate, by the number of octets and the last one.
 fn likely_kind(octets: &[u8]) -> Option<AttributeKind>
     ensures { (k : AttributeKind) → octets.now ≡ kind_octets k → result ≡ Some k }
 {
@@ -122,7 +34,7 @@ fn likely_kind(octets: &[u8]) -> Option<AttributeKind>
     }
 }
 
-/// Returns the kind below id-at whose identifier ends in this octet.
+/// Returns the kind of id-at whose identifier ends in this octet.
 fn id_at_kind(last: u8) -> Option<AttributeKind>
     ensures { IdentifiesKind (id_at last) result }
 {

@@ -1,5 +1,5 @@
-//! What rules of RFC 5280 are made of: the texts of general names, identifiers, extensions and attributes by their
-//! octets, algorithms, the types of values of extensions, and what values say.
+//! Facts for rules of RFC 5280: the syntax of general names, known identifiers, algorithms, types of extension values
+//! and what these values say.
 #![tactic(auto)]
 
 pub mod algorithms;
@@ -9,7 +9,6 @@ pub mod display;
 pub mod host_name;
 pub mod identified;
 pub mod identifier;
-pub mod known;
 pub mod mailbox;
 pub mod readers;
 pub mod types;

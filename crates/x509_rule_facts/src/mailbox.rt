@@ -8,16 +8,16 @@ ghost use Rattle.x509_rule_facts.specs.Mailboxes.{is_qtext, is_beyond_ascii};
 
 use crate::host_name::is_host_name;
 
-/// The characters that the local part of a mailbox may have.
+/// The characters of the local part of a mailbox.
 #[derive(Clone, Copy, Debug, PartialEq)]
 pub enum LocalCharacters {
-    /// Those of ASCII (RFC 5321 4.1.2).
+    /// ASCII (RFC 5321 4.1.2).
     Ascii,
-    /// All others, too, in UTF-8 (RFC 6531 3.3).
+    /// All of Unicode, in UTF-8 (RFC 6531 3.3).
     Utf8,
 }
 
-/// The signs of an atom beside letters and digits (RFC 5322 3.2.3).
+/// The signs that an atom may have, beside letters and digits (RFC 5322 3.2.3).
 const ATOM_SIGNS: &[u8] = b"!#$%&'*+-/=?^_`{|}~";
 
 /// Returns whether the text is a mailbox.
@@ -37,7 +37,7 @@ fn is_plain_mailbox(characters: LocalCharacters, text: &str) -> bool
     }
 }
 
-/// Returns whether the text before "@" is atoms with dots between, and the one behind it a domain.
+/// Returns whether the text before "@" is atoms with dots between, and the text after it a domain.
 fn are_plain_parts(characters: LocalCharacters, local: &str, domain: &str) -> bool
     ensures { IsTrue result ↔ (IsTrue (is_dot_string characters local.now) × IsDomain domain.now) }
 {
@@ -52,21 +52,21 @@ fn is_dot_string(characters: LocalCharacters, text: &[u8]) -> bool
         .all(|atom| is_atom(characters, atom))
 }
 
-/// Returns whether there are octets, and all are characters of an atom.
+/// Returns whether there are octets, and all may be in an atom.
 fn is_atom(characters: LocalCharacters, text: &[u8]) -> bool
     ensures { result ≡ is_atom characters text.now }
 {
     !text.is_empty() && are_atext(characters, text)
 }
 
-/// Returns whether all are characters of an atom.
+/// Returns whether all may be in an atom.
 fn are_atext(characters: LocalCharacters, text: &[u8]) -> bool
     ensures { result ≡ list_all (is_atext characters) text.now }
 {
     text.iter().all(|octet| is_atext(characters, *octet))
 }
 
-/// Returns whether it is a character of an atom.
+/// Returns whether the octet may be in an atom.
 fn is_atext(characters: LocalCharacters, octet: u8) -> bool
     ensures { result ≡ is_atext characters octet }
 {
@@ -75,7 +75,7 @@ fn is_atext(characters: LocalCharacters, octet: u8) -> bool
         || is_beyond_ascii(characters, octet)
 }
 
-/// Returns whether it is an octet of a character beyond ASCII, which the local part may have.
+/// Returns whether the octet is beyond ASCII, and the local part may have it.
 fn is_beyond_ascii(characters: LocalCharacters, octet: u8) -> bool
     ensures { result ≡ is_beyond_ascii characters octet }
 {
@@ -95,7 +95,7 @@ fn is_quoted_mailbox(characters: LocalCharacters, text: &[u8]) -> bool
     }
 }
 
-/// Returns whether the rest of a quoted string follows, "@" and a domain.
+/// Returns whether the text is the rest of a quoted string, "@" and a domain.
 fn quoted_follows(characters: LocalCharacters, text: &[u8]) -> bool
     ensures { IsTrue result ↔ QuotedFollows characters text.now }
 {
@@ -106,7 +106,7 @@ fn quoted_follows(characters: LocalCharacters, text: &[u8]) -> bool
     closes(left)
 }
 
-/// Returns what is behind the character that the text begins with, if a quoted string may have it.
+/// Returns the text after its first character, if a quoted string may have that.
 fn behind_quoted(characters: LocalCharacters, text: &[u8]) -> Option<&[u8]>
     ensures { MatchOption result ((rest : List ℕ) → ¬ IsQuoted characters text.now rest)
         (λ x. IsQuoted characters text.now x.now × (length x.now < length text.now)) }
@@ -140,28 +140,28 @@ fn closes(text: &[u8]) -> bool
     }
 }
 
-/// Returns whether it is a character that a quoted string has as it is.
+/// Returns whether a quoted string may have the character without a backslash.
 fn is_qtext(characters: LocalCharacters, octet: u8) -> bool
     ensures { result ≡ is_qtext characters octet }
 {
     (is_printable(octet) && octet != b'"' && octet != b'\\') || is_beyond_ascii(characters, octet)
 }
 
-/// Returns whether it is a visible character of ASCII or the space.
+/// Returns whether the octet is a visible character of ASCII or the space.
 fn is_printable(octet: u8) -> bool
     ensures { result ≡ is_printable octet }
 {
     octet >= b' ' && octet <= b'~'
 }
 
-/// Returns whether it is a host name or the literal of an address.
+/// Returns whether the text is a host name or an address literal.
 fn is_domain(text: &[u8]) -> bool
     ensures { IsTrue result ↔ IsDomain text.now }
 {
     is_host_name(text) || is_address_literal(text)
 }
 
-/// Returns whether it is an address in brackets. Which address isn't asked.
+/// Returns whether the text is an address in brackets. The address isn't checked.
 fn is_address_literal(text: &[u8]) -> bool
     ensures { IsTrue result ↔ IsAddressLiteral text.now }
 {
@@ -171,7 +171,7 @@ fn is_address_literal(text: &[u8]) -> bool
     }
 }
 
-/// Returns whether characters of a literal follow, one at least, and a bracket.
+/// Returns whether the text is characters of a literal, at least one, and a bracket.
 fn is_literal_content(text: &[u8]) -> bool
     ensures { IsTrue result ↔ IsLiteralContent text.now }
 {
@@ -181,7 +181,7 @@ fn is_literal_content(text: &[u8]) -> bool
     }
 }
 
-/// Returns whether the last octet is a bracket, and characters of a literal are before it.
+/// Returns whether the last octet is a bracket, with characters of a literal before it.
 fn is_closed_by(last: u8, inside: &[u8]) -> bool
     ensures { IsTrue result
         ↔ ((last ≡ 93) × (inside.now ≢ []) × IsTrue (list_all is_literal_character inside.now)) }
@@ -195,7 +195,7 @@ pub(crate) fn are_literal_characters(text: &[u8]) -> bool
     text.iter().all(|octet| is_literal_character(*octet))
 }
 
-/// Returns whether it is a visible character of ASCII that is no bracket and no backslash.
+/// Returns whether the octet is a visible character of ASCII other than brackets and the backslash.
 fn is_literal_character(octet: u8) -> bool
     ensures { result ≡ is_literal_character octet }
 {

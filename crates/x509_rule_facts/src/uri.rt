@@ -1,5 +1,5 @@
-//! The syntax of identifiers of resources: the host (RFC 3986 3.2, for RFC 5280 4.2.1.6), and the entry that one of
-//! LDAP names (RFC 4516 2, for 4.2.1.13, 4.2.2.1 and 4.2.2.2).
+//! The syntax of URIs: the host (RFC 3986 3.2, for RFC 5280 4.2.1.6), and the entry in an LDAP URL (RFC 4516 2, for
+//! 4.2.1.13, 4.2.2.1 and 4.2.2.2).
 ghost use Rattle.std.specs.Prelude.{◌≡◌, ◌≢◌, ◌↔◌, ◌≤◌, ◌==◌, ◌∷◌, IsTrue, List, MatchOption, length, ℕ};
 ghost use Rattle.std.specs.Char.{is_ascii_digit};
 ghost use Rattle.std.specs.List.{after_first, before_first, list_all, position_or_len};
@@ -15,7 +15,7 @@ use crate::mailbox::are_literal_characters;
 /// The scheme of LDAP.
 const LDAP: &[u8] = b"ldap";
 
-/// Returns whether the text has an authority behind its scheme, and that has no host: neither a name nor an address.
+/// Returns whether the URI has an authority without a host: neither a name nor an address.
 pub fn has_no_host(text: &[u8]) -> bool
     ensures { IsTrue result ↔ HasNoHost text.now }
 {
@@ -25,21 +25,21 @@ pub fn has_no_host(text: &[u8]) -> bool
     }
 }
 
-/// Returns whether the authority that the text begins with has no host.
+/// Returns whether the authority at the start of the text has no host.
 fn is_hostless(text: &[u8]) -> bool
     ensures { IsTrue result ↔ IsHostless text.now }
 {
     !is_host_and_port(without_user(before_path(text)))
 }
 
-/// Returns whether it is a host, and perhaps a port behind it.
+/// Returns whether the text is a host, perhaps with a port.
 fn is_host_and_port(text: &[u8]) -> bool
     ensures { IsTrue result ↔ IsHostAndPort text.now }
 {
     is_literal_and_port(text) || is_name_and_port(text)
 }
 
-/// Returns whether it is the literal of an address, and perhaps a port behind it.
+/// Returns whether the text is an address literal, perhaps with a port.
 fn is_literal_and_port(text: &[u8]) -> bool
     ensures { IsTrue result ↔ IsLiteralAndPort text.now }
 {
@@ -49,7 +49,7 @@ fn is_literal_and_port(text: &[u8]) -> bool
     }
 }
 
-/// Returns whether characters of an address follow, a bracket, and perhaps a port. Which address isn't asked.
+/// Returns whether the text is characters of an address, a bracket, and perhaps a port. The address isn't checked.
 fn closes_literal(text: &[u8]) -> bool
     ensures { IsTrue result ↔ ClosesLiteral text.now }
 {
@@ -60,7 +60,7 @@ fn closes_literal(text: &[u8]) -> bool
         && is_port(behind(text, b']'))
 }
 
-/// Returns whether it is a colon and a port, or nothing.
+/// Returns whether the text is a colon and a port, or empty.
 fn is_port(text: &[u8]) -> bool
     ensures { IsTrue result ↔ IsPort text.now }
 {
@@ -70,7 +70,7 @@ fn is_port(text: &[u8]) -> bool
     }
 }
 
-/// Returns whether it is the name of a host, and perhaps a port behind it.
+/// Returns whether the text is a host name, perhaps with a port.
 fn is_name_and_port(text: &[u8]) -> bool
     ensures { IsTrue result ↔ IsNameAndPort text.now }
 {
@@ -78,7 +78,7 @@ fn is_name_and_port(text: &[u8]) -> bool
     (is_host_name(name) || is_rooted_name(name)) && are_digits(behind(text, b':'))
 }
 
-/// Returns whether it is a host name with a dot behind it.
+/// Returns whether the text is a host name and a dot.
 fn is_rooted_name(text: &[u8]) -> bool
     ensures { IsTrue result ↔ IsRootedName text.now }
 {
@@ -100,7 +100,7 @@ fn are_digits(text: &[u8]) -> bool
     text.iter().all(|octet| octet.is_ascii_digit())
 }
 
-/// The authority without the user that it may begin with.
+/// The authority without its user part.
 fn without_user(authority: &[u8]) -> &[u8]
     ensures { result.now ≡ without_user authority.now }
 {
@@ -111,14 +111,14 @@ fn without_user(authority: &[u8]) -> &[u8]
     }
 }
 
-/// Returns whether the scheme is that of LDAP, in letters of any case.
+/// Returns whether the scheme is ldap, in letters of any case.
 pub fn is_ldap(text: &[u8]) -> bool
     ensures { IsTrue result ↔ IsLdap text.now }
 {
     text.contains(&b':') && before(text, b':').eq_ignore_ascii_case(LDAP)
 }
 
-/// Returns whether the identifier, which is one of LDAP, has the name of an entry and attributes.
+/// Returns whether the LDAP URL names an entry and attributes.
 pub fn names_entry(text: &[u8]) -> bool
     ensures { IsTrue result ↔ NamesEntry text.now }
 {
@@ -128,7 +128,7 @@ pub fn names_entry(text: &[u8]) -> bool
     }
 }
 
-/// Returns whether it has several attributes.
+/// Returns whether the LDAP URL names several attributes.
 pub fn names_several_attributes(text: &[u8]) -> bool
     ensures { IsTrue result ↔ NamesSeveralAttributes text.now }
 {
@@ -144,28 +144,28 @@ fn is_entry(text: &[u8]) -> bool
     !dn_of(text).is_empty() && !attributes_of(text).is_empty()
 }
 
-/// The name of the entry: what is between "/" and "?".
+/// The name of the entry, between "/" and "?".
 fn dn_of(text: &[u8]) -> &[u8]
     ensures { result.now ≡ dn_of text.now }
 {
     before(behind(text, b'/'), b'?')
 }
 
-/// The attributes: what is behind "?", and before the next one.
+/// The attributes, between "?" and the next "?".
 fn attributes_of(text: &[u8]) -> &[u8]
     ensures { result.now ≡ attributes_of text.now }
 {
     before(behind(behind(text, b'/'), b'?'), b'?')
 }
 
-/// What is before the path, the query and the fragment: the authority.
+/// The authority, which ends before the path, the query or the fragment.
 fn before_path(text: &[u8]) -> &[u8]
     ensures { result.now ≡ before_first ends_authority text.now }
 {
     &text[..authority_end(text)]
 }
 
-/// Where an authority ends.
+/// The offset of the end of an authority.
 fn authority_end(text: &[u8]) -> usize
     ensures first { result ≡ position_or_len ends_authority text.now }
     ensures within { result ≤ length text.now }
@@ -175,14 +175,14 @@ fn authority_end(text: &[u8]) -> usize
         .unwrap_or(text.len())
 }
 
-/// Returns whether it is "/", "?" or "#".
+/// Returns whether the octet is "/", "?" or "#".
 fn ends_authority(octet: u8) -> bool
     ensures { result ≡ ends_authority octet }
 {
     octet == b'/' || octet == b'?' || octet == b'#'
 }
 
-/// Returns what is behind two slashes, if the text begins with these.
+/// Returns the text after two slashes, if it begins with them.
 fn behind_slashes(text: &[u8]) -> Option<&[u8]>
     ensures { MatchOption result ((x : List ℕ) → text.now ≢ 47 ∷ 47 ∷ x) (λ x. text.now ≡ 47 ∷ 47 ∷ x.now) }
 {
@@ -192,7 +192,7 @@ fn behind_slashes(text: &[u8]) -> Option<&[u8]>
     }
 }
 
-/// Returns what is behind a bracket, if the text begins with one.
+/// Returns the text after "[", if it begins with one.
 fn behind_bracket(text: &[u8]) -> Option<&[u8]>
     ensures { MatchOption result ((x : List ℕ) → text.now ≢ 91 ∷ x) (λ x. text.now ≡ 91 ∷ x.now) }
 {
@@ -202,14 +202,14 @@ fn behind_bracket(text: &[u8]) -> Option<&[u8]>
     }
 }
 
-/// What is before the first such octet, or all where there is none.
+/// The text before the first such octet, or all of it if there is none.
 fn before(text: &[u8], octet: u8) -> &[u8]
     ensures { result.now ≡ before_first (λ b. b == octet) text.now }
 {
     &text[..offset_of(text, octet)]
 }
 
-/// What is behind the first such octet, or nothing where there is none.
+/// The text after the first such octet, or nothing if there is none.
 fn behind(text: &[u8], octet: u8) -> &[u8]
     ensures { result.now ≡ after_first (λ b. b == octet) text.now }
 {
@@ -220,7 +220,7 @@ fn behind(text: &[u8], octet: u8) -> &[u8]
     &text[offset + 1..]
 }
 
-/// Where an octet is first, or the length.
+/// The offset of the first such octet, or the length if there is none.
 fn offset_of(text: &[u8], octet: u8) -> usize
     ensures first { result ≡ position_or_len (λ b. b == octet) text.now }
     ensures within { result ≤ length text.now }

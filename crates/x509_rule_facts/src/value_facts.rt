@@ -1,4 +1,4 @@
-//! What the value of an extension says. One that isn't of its type says nothing.
+//! What the value of an extension says. A value of another type says nothing.
 ghost use Rattle.std.specs.Prelude.{◌≡◌, ◌≢◌, ◌↔◌, IsTrue, None};
 ghost use Rattle.der_cursor.specs.Formats.{ObjectIdentifier as IdentifierFormat, Required};
 ghost use Rattle.der_extensions.specs.Extensions.{AccessDescription as AccessFormat, access_of, authority_of};
@@ -9,24 +9,24 @@ ghost use Rattle.x509_rule_facts.specs.ValueFacts.{IsMailboxName, IsOcspResponde
 ghost use Rattle.x509_rule_facts.specs.ValueFacts.{extension_of_fact};
 
 use crate::identifier::has_octets;
-use crate::known::KnownExtension;
-use crl_reader::{Reason, read_reason};
 use der_extensions::{
     AccessDescription, AuthorityKeyIdentifier, BasicConstraints, ExtendedKeyUsage, GeneralName,
-    GeneralNames, InformationAccess, read_authority_key_identifier, read_basic_constraints,
-    read_extended_key_usage, read_general_names, read_information_access, read_key_usage,
+    GeneralNames, InformationAccess, KnownExtension, read_authority_key_identifier,
+    read_basic_constraints, read_extended_key_usage, read_general_names, read_information_access,
+    read_key_usage,
 };
+use x509::crl::{Reason, read_reason};
 
-/// What the value of an extension may say, for rules to be made of.
+/// What the value of an extension may say, as rules ask it.
 #[derive(Clone, Copy, Debug, PartialEq)]
 pub enum ValueFact {
     /// basicConstraints: the subject is a certification authority (RFC 5280 4.2.1.9).
     Authority,
     /// basicConstraints: there is a pathLenConstraint (4.2.1.9).
     PathLength,
-    /// keyUsage: the key verifies signatures of certificates (4.2.1.3).
+    /// keyUsage: keyCertSign, the key verifies signatures of certificates (4.2.1.3).
     KeyCertSign,
-    /// keyUsage: it verifies signatures of lists of revoked certificates (4.2.1.3).
+    /// keyUsage: cRLSign, the key verifies signatures of CRLs (4.2.1.3).
     CrlSign,
     /// authorityKeyIdentifier: there is a keyIdentifier (4.2.1.1).
     KeyIdentifier,
@@ -41,7 +41,7 @@ pub enum ValueFact {
 }
 
 impl ValueFact {
-    /// The extension that it is about.
+    /// Returns the extension that the fact is about.
     #[inline]
     pub fn extension(self) -> KnownExtension
         ensures { result ≡ extension_of_fact self }
@@ -64,7 +64,7 @@ const ANY_EXTENDED_KEY_USAGE: &[u8] = b"\x55\x1d\x25\x00";
 /// id-ad-ocsp: 1.3.6.1.5.5.7.48.1.
 const OCSP: &[u8] = b"\x2b\x06\x01\x05\x05\x07\x30\x01";
 
-/// Returns whether the value of the extension that the fact is about says so.
+/// Returns whether the value of the fact's extension says it.
 pub fn says(fact: ValueFact, value: &[u8]) -> bool
     ensures { IsTrue result ↔ ValueSays fact value.now }
 {

@@ -1,9 +1,9 @@
 -- Names of issuers in distribution points.
 use Rattle.std.proofs.Common.{◌≢◌, ℕ, Option, Some, None, List, inr}
-use Rattle.der_x509.specs.Certificates.{Signed}
-use Rattle.der_x509.proofs.WalkLaws.{elsewhere}
+use Rattle.x509.specs.Certificates.{Signed}
+use Rattle.x509.proofs.WalkLaws.{elsewhere}
 use Rattle.x509_value_rules.specs.declared.facts.Fact.TheVariants.{Breaks}
-use Rattle.x509_rule_facts.specs.declared.known.KnownExtension.{KnownExtension}
+use Rattle.der_extensions.specs.declared.known.KnownExtension.{KnownExtension}
 use Rattle.x509_value_rules.specs.declared.points.PointRule.TheVariants.{NameAlone}
 use Rattle.x509_value_rules.specs.declared.value_rules.ValueRule.TheVariants as rule
 use Rattle.x509_value_rules.specs.Facts.{Has, Shows}

@@ -1,7 +1,7 @@
 -- What an iterator over the rules that a certificate breaks gives.
 use Rattle.std.specs.Prelude.{◌≡◌, List, Option, MatchOption}
 use Rattle.std.specs.List.{All}
-use Rattle.der_x509.specs.Certificates.{Signed, certificate_of}
+use Rattle.x509.specs.Certificates.{Signed, certificate_of}
 use Rattle.x509_rules.specs.declared.broken.BrokenRules.{BrokenRules}
 use Rattle.x509_rules.specs.declared.broken.FirstBroken.{FirstBroken}
 use Rattle.x509_rules.specs.declared.certificate.Rule.{Rule}

@@ -1,6 +1,6 @@
 -- A certificate, and what was found of it.
 use Rattle.std.specs.Prelude.{◌≡◌, IfSome}
-use Rattle.der_x509.specs.Certificates.{Signed, certificate_of}
+use Rattle.x509.specs.Certificates.{Signed, certificate_of}
 use Rattle.x509_rules.specs.declared.examined.Examined.{Examined}
 use Rattle.x509_rule_facts.specs.Attributes.{AreBadKinds}
 use Rattle.x509_value_rules.specs.Sorted.{IsSorted}

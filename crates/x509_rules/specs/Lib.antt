@@ -1,4 +1,5 @@
 pub mod Broken
+pub mod Crl
 pub mod Examined
 pub mod Issuers
 pub mod Rules

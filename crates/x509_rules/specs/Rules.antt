@@ -1,6 +1,6 @@
 -- The rules of RFC 5280 for certificates.
-use Rattle.der_x509.specs.Certificates.{Signed}
-use Rattle.der_x509.specs.Rules.{Breaks as BreaksFields}
+use Rattle.x509.specs.Certificates.{Signed}
+use Rattle.x509.specs.Rules.{Breaks as BreaksFields}
 use Rattle.x509_rules.specs.declared.certificate.Rule.{Rule}
 use Rattle.x509_rules.specs.declared.certificate.Rule.TheVariants as rule
 use Rattle.x509_value_rules.specs.declared.facts.Fact.TheVariants as fact

@@ -1,11 +1,11 @@
 -- The rules of a certificate as a whole.
 use Rattle.std.specs.Prelude.{◌≡◌, ◌≢◌, ℕ, ◌⊎◌, None, List, []}
-use Rattle.der_x509.specs.Certificates.{ExtensionValue, Signed, extension}
-use Rattle.der_x509.specs.Lists.{Somewhere}
+use Rattle.x509.specs.Certificates.{ExtensionValue, Signed, extension}
+use Rattle.x509.specs.Lists.{Somewhere}
 use Rattle.x509_rule_facts.specs.declared.attributes.AttributeKind.TheVariants as kind
 use Rattle.x509_value_rules.specs.declared.facts.Fact.TheVariants.{Present, Critical, NotCritical}
-use Rattle.x509_rule_facts.specs.declared.known.KnownExtension.{KnownExtension}
-use Rattle.x509_rule_facts.specs.declared.known.KnownExtension.TheVariants as known
+use Rattle.der_extensions.specs.declared.known.KnownExtension.{KnownExtension}
+use Rattle.der_extensions.specs.declared.known.KnownExtension.TheVariants as known
 use Rattle.x509_rule_facts.specs.declared.value_facts.ValueFact.TheVariants.{AnyPurpose, CrlSign, KeyCertSign}
 use Rattle.x509_rule_facts.specs.declared.value_facts.ValueFact.TheVariants.{KeyIdentifier, Mailbox, OcspResponder}
 use Rattle.x509_rule_facts.specs.declared.value_facts.ValueFact.TheVariants.{PathLength}
@@ -13,7 +13,7 @@ use Rattle.x509_rules.specs.declared.whole.WholeRule.{WholeRule}
 use Rattle.x509_rules.specs.declared.whole.WholeRule.TheVariants as rule
 use Rattle.x509_rule_facts.specs.Attributes.{HasKind, IsSelfIssued}
 use Rattle.x509_value_rules.specs.Facts.{Has, IsAuthority, MaySignCertificates, Tells}
-use Rattle.x509_rule_facts.specs.Identifiers.{octets_of}
+use Rattle.der_extensions.specs.Known.{octets_of}
 use Rattle.x509_rules.specs.Issuers.{PointsTo}
 
 -- the subject has no name

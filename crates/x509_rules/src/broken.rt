@@ -1,29 +1,28 @@
 //! An iterator over the rules that a certificate breaks.
 ghost use Rattle.std.specs.Prelude.{◌≡◌, ◌<◌, ◌^◌, length};
 ghost use Rattle.std.specs.Iterator.{at_most};
-ghost use Rattle.der_x509.specs.Certificates.{certificate_of};
+ghost use Rattle.x509.specs.Certificates.{certificate_of};
 ghost use Rattle.x509_rules.specs.Broken.{FindsBroken, YieldsBroken, certificate_in, rules_left};
 
 use crate::certificate::{Rule, breaks_examined};
 use crate::examined::examine;
-use der_x509::Certificate;
+use x509::Certificate;
 
-/// The rules that a certificate breaks, of some, in their order.
+/// The rules, of a list, that a certificate breaks, in the order of the list.
 #[derive(Clone, Copy)]
 pub struct BrokenRules<'r, 'a> {
     certificate: &'r Certificate<'a>,
     left: &'r [Rule],
 }
 
-/// A rule that is broken, and those after it.
+/// A broken rule, and the rules after it.
 #[derive(Clone, Copy)]
 pub(crate) struct FirstBroken<'r> {
     pub rule: Rule,
     pub rest: &'r [Rule],
 }
 
-/// The rules that the certificate breaks: all of those, in their order. The rules are `MUST_RULES`, `SHOULD_RULES`
-/// or others.
+/// The rules of the list that the certificate breaks, in order. The list is `MUST_RULES`, `SHOULD_RULES` or your own.
 ///
 /// ```
 /// for rule in broken_rules(&certificate, MUST_RULES) {
@@ -60,7 +59,7 @@ impl<'r, 'a> Iterator for BrokenRules<'r, 'a> {
     }
 }
 
-/// Returns the first of the rules that the certificate breaks. It is examined once for all of them.
+/// Returns the first rule that the certificate breaks. It is examined once for all of them.
 fn first_broken<'r>(certificate: &Certificate<'_>, rules: &'r [Rule]) -> Option<FirstBroken<'r>>
     ensures { FindsBroken (certificate_of certificate.now) rules.now result }
 {

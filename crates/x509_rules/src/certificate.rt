@@ -1,16 +1,16 @@
-//! The rules of certificates, and which of them one breaks.
+//! The rules of certificates, and whether one breaks them.
 ghost use Rattle.std.specs.Prelude.{◌↔◌, IsTrue};
-ghost use Rattle.der_x509.specs.Certificates.{Signed, certificate_of};
+ghost use Rattle.x509.specs.Certificates.{Signed, certificate_of};
 ghost use Rattle.x509_rules.specs.Examined.{IsExamined, signed_of};
 ghost use Rattle.x509_value_rules.specs.Facts.{IsAuthority};
 ghost use Rattle.x509_rules.specs.Rules.{Breaks};
 
 use crate::examined::{Examined, breaks_attribute, has, unexamined};
 use crate::whole::{WholeRule, breaks_whole};
-use der_x509::{Certificate, Rule as FieldRule};
+use der_extensions::KnownExtension;
+use x509::{Certificate, Rule as FieldRule};
 use x509_rule_facts::algorithms::{AlgorithmRule, breaks_algorithm};
 use x509_rule_facts::attributes::AttributeKind;
-use x509_rule_facts::known::KnownExtension;
 use x509_rule_facts::types::ValueType;
 use x509_value_rules::facts::Fact;
 use x509_value_rules::names::NameRule;
@@ -19,26 +19,26 @@ use x509_value_rules::points::PointRule;
 use x509_value_rules::subtrees::SubtreeRule;
 use x509_value_rules::value_rules::ValueRule;
 
-/// A rule of RFC 5280 that a certificate may break and still be one by its ASN.1.
+/// A rule of RFC 5280 that the ASN.1 of a certificate doesn't express.
 #[derive(Clone, Copy, Debug, PartialEq)]
 pub enum Rule {
-    /// A rule of the fields, which `der_x509` asks.
+    /// A rule of the fields, from `x509`.
     Fields(FieldRule),
-    /// The algorithms of the signature and of the key have the parameters that they are to have.
+    /// The algorithms of the signature and of the key have the right parameters.
     Algorithm(AlgorithmRule),
-    /// The attributes of the issuer and the subject that are of the kind have values of its type (A.1).
+    /// The issuer's and the subject's attributes of this kind have values of its type (A.1).
     Attribute(AttributeKind),
     /// The extension is critical, if it is there.
     Critical(KnownExtension),
     /// The extension isn't critical.
     NotCritical(KnownExtension),
-    /// The extension's value keeps the rule, if it is of its type.
+    /// The extension's value keeps the rule, if it has its type.
     Value(KnownExtension, ValueRule),
     /// A rule of the certificate as a whole.
     Whole(WholeRule),
 }
 
-/// The rules that RFC 5280 says by MUST or MUST NOT, in the order of its sections.
+/// The rules with MUST or MUST NOT in RFC 5280, in the order of its sections.
 pub const MUST_RULES: &[Rule] = &[
     Rule::Fields(FieldRule::SameAlgorithms),
     Rule::Algorithm(AlgorithmRule::NullOfRsa),
@@ -160,6 +160,11 @@ pub const MUST_RULES: &[Rule] = &[
         KnownExtension::AuthorityKeyIdentifier,
         ValueRule::Issuer(NameRule::TypedAttributes),
     ),
+    Rule::Value(
+        KnownExtension::AuthorityKeyIdentifier,
+        ValueRule::Issuer(NameRule::PartyName),
+    ),
+    Rule::Value(KnownExtension::AuthorityKeyIdentifier, ValueRule::DerValues),
     Rule::Whole(WholeRule::KeyIdentifierOfAuthority),
     Rule::NotCritical(KnownExtension::SubjectKeyIdentifier),
     Rule::Whole(WholeRule::KeyUsageOfAuthority),
@@ -188,6 +193,7 @@ pub const MUST_RULES: &[Rule] = &[
         KnownExtension::CertificatePolicies,
         ValueRule::Qualifiers(QualifierRule::Notice(NoticeRule::NoIa5Text)),
     ),
+    Rule::Value(KnownExtension::CertificatePolicies, ValueRule::DerValues),
     Rule::Value(KnownExtension::PolicyMappings, ValueRule::UnmappedAnyPolicy),
     Rule::Value(
         KnownExtension::SubjectAltName,
@@ -230,6 +236,11 @@ pub const MUST_RULES: &[Rule] = &[
         ValueRule::Names(NameRule::TypedAttributes),
     ),
     Rule::Value(
+        KnownExtension::SubjectAltName,
+        ValueRule::Names(NameRule::PartyName),
+    ),
+    Rule::Value(KnownExtension::SubjectAltName, ValueRule::DerValues),
+    Rule::Value(
         KnownExtension::IssuerAltName,
         ValueRule::Names(NameRule::NotEmpty),
     ),
@@ -269,7 +280,16 @@ pub const MUST_RULES: &[Rule] = &[
         KnownExtension::IssuerAltName,
         ValueRule::Names(NameRule::TypedAttributes),
     ),
+    Rule::Value(
+        KnownExtension::IssuerAltName,
+        ValueRule::Names(NameRule::PartyName),
+    ),
+    Rule::Value(KnownExtension::IssuerAltName, ValueRule::DerValues),
     Rule::NotCritical(KnownExtension::SubjectDirectoryAttributes),
+    Rule::Value(
+        KnownExtension::SubjectDirectoryAttributes,
+        ValueRule::DerValues,
+    ),
     Rule::Whole(WholeRule::CriticalConstraints),
     Rule::Whole(WholeRule::PathLengthOfAuthority),
     Rule::Whole(WholeRule::PathLengthOfCertSign),
@@ -308,6 +328,11 @@ pub const MUST_RULES: &[Rule] = &[
         KnownExtension::NameConstraints,
         ValueRule::Subtrees(SubtreeRule::Base(NameRule::TypedAttributes)),
     ),
+    Rule::Value(
+        KnownExtension::NameConstraints,
+        ValueRule::Subtrees(SubtreeRule::Base(NameRule::PartyName)),
+    ),
+    Rule::Value(KnownExtension::NameConstraints, ValueRule::DerValues),
     Rule::Critical(KnownExtension::PolicyConstraints),
     Rule::Value(KnownExtension::PolicyConstraints, ValueRule::NotEmpty),
     Rule::Value(
@@ -340,12 +365,17 @@ pub const MUST_RULES: &[Rule] = &[
     ),
     Rule::Value(
         KnownExtension::CrlDistributionPoints,
+        ValueRule::Points(PointRule::FullNames(NameRule::PartyName)),
+    ),
+    Rule::Value(
+        KnownExtension::CrlDistributionPoints,
         ValueRule::Points(PointRule::FullNames(NameRule::LdapEntry)),
     ),
     Rule::Value(
         KnownExtension::CrlDistributionPoints,
         ValueRule::Points(PointRule::FullNames(NameRule::LdapAttribute)),
     ),
+    Rule::Value(KnownExtension::CrlDistributionPoints, ValueRule::DerValues),
     Rule::Value(
         KnownExtension::CrlDistributionPoints,
         ValueRule::PointForAllReasons,
@@ -384,12 +414,17 @@ pub const MUST_RULES: &[Rule] = &[
     ),
     Rule::Value(
         KnownExtension::FreshestCrl,
+        ValueRule::Points(PointRule::FullNames(NameRule::PartyName)),
+    ),
+    Rule::Value(
+        KnownExtension::FreshestCrl,
         ValueRule::Points(PointRule::FullNames(NameRule::LdapEntry)),
     ),
     Rule::Value(
         KnownExtension::FreshestCrl,
         ValueRule::Points(PointRule::FullNames(NameRule::LdapAttribute)),
     ),
+    Rule::Value(KnownExtension::FreshestCrl, ValueRule::DerValues),
     Rule::NotCritical(KnownExtension::AuthorityInfoAccess),
     Rule::Value(
         KnownExtension::AuthorityInfoAccess,
@@ -399,6 +434,11 @@ pub const MUST_RULES: &[Rule] = &[
         KnownExtension::AuthorityInfoAccess,
         ValueRule::Locations(NameRule::TypedAttributes),
     ),
+    Rule::Value(
+        KnownExtension::AuthorityInfoAccess,
+        ValueRule::Locations(NameRule::PartyName),
+    ),
+    Rule::Value(KnownExtension::AuthorityInfoAccess, ValueRule::DerValues),
     Rule::Value(
         KnownExtension::AuthorityInfoAccess,
         ValueRule::Locations(NameRule::LdapEntry),
@@ -414,19 +454,25 @@ pub const MUST_RULES: &[Rule] = &[
     ),
     Rule::Value(
         KnownExtension::SubjectInfoAccess,
+        ValueRule::Locations(NameRule::PartyName),
+    ),
+    Rule::Value(KnownExtension::SubjectInfoAccess, ValueRule::DerValues),
+    Rule::Value(
+        KnownExtension::SubjectInfoAccess,
         ValueRule::Locations(NameRule::LdapEntry),
     ),
     Rule::Value(
         KnownExtension::QcStatements,
         ValueRule::OfType(ValueType::Statements),
     ),
+    Rule::Value(KnownExtension::QcStatements, ValueRule::DerValues),
     Rule::Value(
         KnownExtension::OcspNoCheck,
-        ValueRule::OfType(ValueType::NoCheck),
+        ValueRule::OfType(ValueType::Null),
     ),
     Rule::Value(
         KnownExtension::PrecertificatePoison,
-        ValueRule::OfType(ValueType::Poison),
+        ValueRule::OfType(ValueType::Null),
     ),
     Rule::Value(
         KnownExtension::SignedCertificateTimestamps,
@@ -439,7 +485,7 @@ pub const MUST_RULES: &[Rule] = &[
     Rule::Critical(KnownExtension::PrecertificatePoison),
     Rule::Value(
         KnownExtension::NoRevAvail,
-        ValueRule::OfType(ValueType::NoRevAvail),
+        ValueRule::OfType(ValueType::Null),
     ),
     Rule::NotCritical(KnownExtension::NoRevAvail),
     Rule::Whole(WholeRule::NoRevAvailOfEndEntity),
@@ -447,7 +493,7 @@ pub const MUST_RULES: &[Rule] = &[
     Rule::Whole(WholeRule::NoRevAvailWithoutOcsp),
 ];
 
-/// Those that it says by SHOULD or SHOULD NOT.
+/// The rules with SHOULD or SHOULD NOT.
 pub const SHOULD_RULES: &[Rule] = &[
     Rule::Whole(WholeRule::KeyIdentifierOfEndEntity),
     Rule::Critical(KnownExtension::KeyUsage),
@@ -480,7 +526,7 @@ pub const SHOULD_RULES: &[Rule] = &[
 ];
 
 impl Rule {
-    /// Whether only the certificate of an authority breaks the rule: its basicConstraints has cA TRUE (4.2.1.9).
+    /// Returns whether only a CA certificate breaks the rule: its basicConstraints has cA TRUE (4.2.1.9).
     pub fn is_of_authority(self) -> bool
         ensures { IsTrue result → (c : Signed) → Breaks self c → IsAuthority c }
     {
@@ -498,7 +544,7 @@ pub fn breaks(rule: Rule, certificate: &Certificate<'_>) -> bool
     breaks_examined(rule, &unexamined(certificate))
 }
 
-/// Returns whether the certificate that was examined breaks the rule.
+/// Returns whether an examined certificate breaks the rule.
 #[inline(always)]
 pub(crate) fn breaks_examined(rule: Rule, certificate: &Examined<'_, '_>) -> bool
     requires { IsExamined certificate.now }

@@ -1,13 +1,13 @@
-//! The texts of rules of certificates: what is wrong where one is broken, and the section of RFC 5280.
+//! The texts of broken rules of certificates, with the section of RFC 5280.
 
 use crate::certificate::Rule;
 use crate::whole::WholeRule;
-use der_x509::Rule as FieldRule;
 use std::fmt;
-use x509_rule_facts::display::{algorithm_text, attribute_name, section};
+use x509::Rule as FieldRule;
+use x509_rule_facts::display::{algorithm_text, attribute_name};
 use x509_value_rules::display::value_text;
 
-/// What is wrong where the rule is broken, and the section: "nameConstraints isn't critical (RFC 5280 4.2.1.10)".
+/// The text of a broken rule, with its section: "nameConstraints isn't critical (RFC 5280 4.2.1.10)".
 impl fmt::Display for Rule {
     fn fmt<W: fmt::Write>(&self, f: &mut fmt::Formatter<W>) -> fmt::Result {
         match self {
@@ -20,8 +20,8 @@ impl fmt::Display for Rule {
                     attribute_name(*kind)
                 )
             }
-            Rule::Critical(known) => { write!(f, "{known} isn't critical ({})", section(*known)) }
-            Rule::NotCritical(known) => { write!(f, "{known} is critical ({})", section(*known)) }
+            Rule::Critical(known) => { write!(f, "{known} isn't critical ({})", known.section()) }
+            Rule::NotCritical(known) => { write!(f, "{known} is critical ({})", known.section()) }
             Rule::Value(known, rule) => write!(f, "{known}: {}", value_text(*rule)),
             Rule::Whole(rule) => f.write_str(whole_text(*rule)),
         }
@@ -44,7 +44,7 @@ fn field_text(rule: FieldRule) -> &'static str {
         FieldRule::DistinctExtensions =>
             "an extension comes twice, or there are more than 512 (RFC 5280 4.2)",
         FieldRule::NamedSubject =>
-            "the subject has no name, and no critical subjectAltName (RFC 5280 4.1.2.6)",
+            "the subject has no name, and no critical subjectAltName has one (RFC 5280 4.1.2.6)",
         FieldRule::DerValues => "a value of any type isn't in DER (X.690 10)",
     }
 }

@@ -1,27 +1,27 @@
-//! A certificate, and what was found of it once, for all rules.
+//! A certificate, with what is read of it once for all rules.
 ghost use Rattle.std.specs.Prelude.{◌≡◌, ◌↔◌, IsTrue};
-ghost use Rattle.der_x509.specs.Certificates.{certificate_of};
+ghost use Rattle.x509.specs.Certificates.{certificate_of};
 ghost use Rattle.x509_rule_facts.specs.Attributes.{BreaksAttribute};
 ghost use Rattle.x509_rules.specs.Examined.{IsExamined, signed_of};
 ghost use Rattle.x509_value_rules.specs.Facts.{Has};
 
-use der_x509::Certificate;
+use der_extensions::KnownExtension;
+use x509::Certificate;
 use x509_rule_facts::attributes::{ATTRIBUTE_KINDS, AttributeKind, bad_kinds, is_marked};
-use x509_rule_facts::known::KnownExtension;
 use x509_value_rules::facts::Fact;
 use x509_value_rules::sorted::{FEW_QUESTIONS, SortedExtensions};
 
-/// A certificate, and what was found of it.
+/// A certificate, with what was read of it.
 #[derive(Drop)]
 pub(crate) struct Examined<'r, 'a> {
     pub signed: &'r Certificate<'a>,
-    /// Its extensions.
+    /// The extensions of the certificate.
     pub extensions: SortedExtensions<'a>,
-    /// The kinds of attributes whose rule it breaks, if anyone has looked.
+    /// The kinds of attributes whose rule it breaks; None if that wasn't read.
     pub bad_kinds: Option<[bool; ATTRIBUTE_KINDS]>,
 }
 
-/// Examines a certificate for one question: nothing is looked for.
+/// A certificate for one question: nothing is read ahead.
 pub(crate) fn unexamined<'r, 'a>(signed: &'r Certificate<'a>) -> Examined<'r, 'a>
     ensures certificate { signed_of result ≡ certificate_of signed.now }
     ensures examined { IsExamined result }
@@ -34,7 +34,7 @@ pub(crate) fn unexamined<'r, 'a>(signed: &'r Certificate<'a>) -> Examined<'r, 'a
     }
 }
 
-/// Examines a certificate for so many questions.
+/// A certificate for this number of questions.
 pub(crate) fn examine<'r, 'a>(signed: &'r Certificate<'a>, questions: usize) -> Examined<'r, 'a>
     ensures certificate { signed_of result ≡ certificate_of signed.now }
     ensures examined { IsExamined result }
@@ -53,7 +53,7 @@ pub(crate) fn examine<'r, 'a>(signed: &'r Certificate<'a>, questions: usize) -> 
     }
 }
 
-/// Returns whether an extension of the certificate, one with the identifier of `known`, shows the fact.
+/// Returns whether an extension with the identifier of `known` shows the fact.
 #[inline(always)]
 pub(crate) fn has(certificate: &Examined<'_, '_>, known: KnownExtension, fact: Fact) -> bool
     requires { IsExamined certificate.now }
@@ -62,7 +62,7 @@ pub(crate) fn has(certificate: &Examined<'_, '_>, known: KnownExtension, fact: F
     certificate.extensions.show(known, fact)
 }
 
-/// Returns whether the issuer or the subject has an attribute of the kind whose value isn't of its type.
+/// Returns whether the issuer or the subject has an attribute of the kind with a value of another type.
 pub(crate) fn breaks_attribute(kind: AttributeKind, certificate: &Examined<'_, '_>) -> bool
     requires { IsExamined certificate.now }
     ensures { IsTrue result ↔ BreaksAttribute kind (signed_of certificate.now) }

@@ -1,24 +1,22 @@
-//! Whether the issuer of a certificate is one of lists at a distribution point (RFC 5280 4.2.1.13).
+//! Whether the issuer of a certificate also signs the CRLs of a distribution point (RFC 5280 4.2.1.13).
 ghost use Rattle.std.specs.Prelude.{◌↔◌, IsTrue};
 ghost use Rattle.der_cursor.specs.Formats.{Required};
 ghost use Rattle.der_extensions.specs.Extensions.{DistributionPoint as PointFormat, point_of};
 ghost use Rattle.der_extensions.specs.GeneralNames.{GeneralName as AnyName, name_of};
 ghost use Rattle.x509_rule_facts.specs.Lists.{Among};
-ghost use Rattle.der_x509.specs.Certificates.{certificate_of, extension, extension_of};
-ghost use Rattle.der_x509.specs.Lists.{Somewhere};
+ghost use Rattle.x509.specs.Certificates.{certificate_of, extension, extension_of};
+ghost use Rattle.x509.specs.Lists.{Somewhere};
 ghost use Rattle.x509_rules.specs.Issuers.{IsName, IsOfIssuer, PointsTo};
 ghost use Rattle.x509_rules.specs.Whole.{HasPointOfIssuer, PointsToIssuer};
 
 use der_extensions::{
-    CrlDistributionPoints, DistributionPoint, GeneralName, GeneralNames,
+    CrlDistributionPoints, DistributionPoint, GeneralName, GeneralNames, KnownExtension,
     read_crl_distribution_points,
 };
-use der_x509::{Certificate, Extension, Extensions, Name};
+use x509::{Certificate, Extension, Extensions, Name};
 use x509_rule_facts::identifier::has_octets;
-use x509_rule_facts::known::KnownExtension;
 
-/// Returns whether one of the extensions is this one, and a point of it has the issuer of the certificate in its
-/// cRLIssuer.
+/// Returns whether a point of this extension has the certificate's issuer in its cRLIssuer.
 pub(crate) fn shows_issuer(certificate: &Certificate<'_>, known: KnownExtension) -> bool
     ensures { IsTrue result ↔ HasPointOfIssuer known (certificate_of certificate.now) }
 {
@@ -26,7 +24,7 @@ pub(crate) fn shows_issuer(certificate: &Certificate<'_>, known: KnownExtension)
     has_point_of(fields.extensions, known, fields.issuer)
 }
 
-/// Returns whether one of the extensions is this one, and a point of it has the name in its cRLIssuer.
+/// Returns whether a point of this extension has the name in its cRLIssuer.
 fn has_point_of(extensions: Extensions<'_>, known: KnownExtension, name: Name<'_>) -> bool
     ensures { IsTrue result ↔ Somewhere extension
         (λ e _. PointsToIssuer known name.entry.octets.now e) extensions.entry.octets.now }
@@ -45,7 +43,7 @@ fn points_to_issuer(known: KnownExtension, name: Name<'_>, extension: &Extension
     has_octets(&extension.identifier, known.identifier()) && points_to(name, extension.value)
 }
 
-/// Returns whether the octets are distribution points, one of which has the name in its cRLIssuer.
+/// Returns whether the octets are distribution points, and one has the name in its cRLIssuer.
 fn points_to(name: Name<'_>, value: &[u8]) -> bool
     ensures { IsTrue result ↔ PointsTo name.entry.octets.now value.now }
 {
@@ -77,7 +75,7 @@ fn is_of_issuer(name: Name<'_>, point: &DistributionPoint<'_>) -> bool
     }
 }
 
-/// Returns whether one of the names is a directoryName of the same octets.
+/// Returns whether one of the names is a directoryName with the same octets.
 fn has_name(name: Name<'_>, names: &GeneralNames<'_>) -> bool
     ensures { IsTrue result ↔ Among AnyName (IsName name.entry.octets.now) names.now.octets.now }
 {

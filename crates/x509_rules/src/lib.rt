@@ -1,9 +1,10 @@
-//! The rules of RFC 5280 that the octets of a certificate show. `der_x509` reads it by its ASN.1; here each rule of the
-//! text is asked.
+//! Tests the rules in the text of RFC 5280 that the octets of a certificate show, and in `crl` those of a CRL. `x509`
+//! reads both by the ASN.1.
 #![tactic(auto)]
 
 mod broken;
 mod certificate;
+pub mod crl;
 mod display;
 mod examined;
 mod issuers;
@@ -11,10 +12,10 @@ mod whole;
 
 pub use broken::{BrokenRules, broken_rules};
 pub use certificate::{MUST_RULES, Rule, SHOULD_RULES, breaks};
+pub use der_extensions::KnownExtension;
 pub use whole::WholeRule;
 pub use x509_rule_facts::algorithms::AlgorithmRule;
 pub use x509_rule_facts::attributes::{AttributeKind, StringKind};
-pub use x509_rule_facts::known::KnownExtension;
 pub use x509_rule_facts::types::ValueType;
 pub use x509_rule_facts::value_facts::ValueFact;
 pub use x509_value_rules::facts::Fact;

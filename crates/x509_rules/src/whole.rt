@@ -1,60 +1,60 @@
 //! Rules of a certificate as a whole: which fields and extensions are there, and which go together.
 ghost use Rattle.std.specs.Prelude.{◌↔◌, IsTrue};
-ghost use Rattle.der_x509.specs.Certificates.{Signed, certificate_of};
+ghost use Rattle.x509.specs.Certificates.{Signed, certificate_of};
 ghost use Rattle.x509_rules.specs.Examined.{IsExamined, signed_of};
 ghost use Rattle.x509_value_rules.specs.Facts.{Has, IsAuthority, MaySignCertificates, Tells};
 ghost use Rattle.x509_rules.specs.Whole.{BreaksWhole, HasEmailAddress, HasNoName, HasPointOfIssuer, HasPoints};
 
 use crate::examined::{Examined, has};
 use crate::issuers::shows_issuer;
-use der_x509::Certificate;
+use der_extensions::KnownExtension;
+use x509::Certificate;
 use x509_rule_facts::attributes::{AttributeKind, has_kind, is_self_issued};
-use x509_rule_facts::known::KnownExtension;
 use x509_rule_facts::value_facts::ValueFact;
 use x509_value_rules::facts::Fact;
 use x509_value_rules::points::PointRule;
 use x509_value_rules::value_rules::ValueRule;
 
-/// A rule of RFC 5280 about a certificate as a whole. An authority is a certificate whose basicConstraints has
-/// cA TRUE (4.2.1.9).
+/// A rule of RFC 5280 about a certificate as a whole. A CA is a certificate whose basicConstraints has cA TRUE
+/// (4.2.1.9).
 #[derive(Clone, Copy, Debug, PartialEq)]
 pub enum WholeRule {
     /// There is no unique identifier (4.1.2.8, MUST NOT).
     NoUniqueIdentifier,
-    /// An authority has a subject with a name (4.1.2.6, MUST).
+    /// A CA has a subject with a name (4.1.2.6, MUST).
     NamedAuthority,
-    /// So has an issuer of lists of revoked certificates, whose keyUsage has cRLSign (4.1.2.6, MUST).
+    /// A CRL issuer, whose keyUsage has cRLSign, has a subject with a name (4.1.2.6, MUST).
     NamedCrlIssuer,
-    /// A subject with an emailAddress has an rfc822Name in a subjectAltName, too (4.1.2.6, MUST of new certificates).
+    /// A subject with an emailAddress also has an rfc822Name in a subjectAltName (4.1.2.6, MUST of new certificates).
     MailboxInAltName,
-    /// There is an authorityKeyIdentifier with a keyIdentifier, unless issuer and subject are the same octets
+    /// There is an authorityKeyIdentifier with a keyIdentifier, unless issuer and subject have the same octets
     /// (4.2.1.1, MUST).
     KeyIdentifierOfIssuer,
-    /// An authority has a subjectKeyIdentifier (4.2.1.2, MUST).
+    /// A CA has a subjectKeyIdentifier (4.2.1.2, MUST).
     KeyIdentifierOfAuthority,
-    /// Who is no authority has a subjectKeyIdentifier (4.2.1.2, SHOULD).
+    /// An end entity has a subjectKeyIdentifier (4.2.1.2, SHOULD).
     KeyIdentifierOfEndEntity,
-    /// An authority has a keyUsage (4.2.1.3, MUST).
+    /// A CA has a keyUsage (4.2.1.3, MUST).
     KeyUsageOfAuthority,
-    /// A keyUsage has keyCertSign only in an authority (4.2.1.3, 4.2.1.9, MUST).
+    /// Only a CA has a keyUsage with keyCertSign (4.2.1.3, 4.2.1.9, MUST).
     CertSignOfAuthority,
     /// A subjectAltName beside a subject with a name isn't critical (4.2.1.6, SHOULD).
     AltNameNotCritical,
-    /// The basicConstraints of an authority is critical, unless a keyUsage without keyCertSign says that its key
-    /// verifies no certificates (4.2.1.9, MUST).
+    /// The basicConstraints of a CA is critical, unless a keyUsage without keyCertSign says that its key verifies no
+    /// certificates (4.2.1.9, MUST).
     CriticalConstraints,
-    /// There is a pathLenConstraint only in an authority (4.2.1.9, MUST).
+    /// Only a CA has a pathLenConstraint (4.2.1.9, MUST).
     PathLengthOfAuthority,
-    /// There is one only beside a keyUsage with keyCertSign (4.2.1.9, MUST).
+    /// A pathLenConstraint is beside a keyUsage with keyCertSign (4.2.1.9, MUST).
     PathLengthOfCertSign,
-    /// There is a nameConstraints only in an authority (4.2.1.10, MUST).
+    /// Only a CA has a nameConstraints (4.2.1.10, MUST).
     NameConstraintsOfAuthority,
     /// An extKeyUsage with anyExtendedKeyUsage isn't critical (4.2.1.12, SHOULD NOT).
     AnyPurposeNotCritical,
-    /// No point of cRLDistributionPoints or freshestCRL has the issuer of the certificate in its cRLIssuer (4.2.1.13,
-    /// MUST). Names of other octets are other ones.
+    /// No point of cRLDistributionPoints or freshestCRL has the certificate's issuer in its cRLIssuer (4.2.1.13, MUST).
+    /// Names are compared by their octets.
     OtherCrlIssuer,
-    /// There is a noRevAvail only in who is no authority (RFC 9608 2, MUST NOT).
+    /// Only an end entity has a noRevAvail (RFC 9608 2, MUST NOT).
     NoRevAvailOfEndEntity,
     /// There is neither cRLDistributionPoints nor freshestCRL beside a noRevAvail (RFC 9608 3, MUST NOT).
     NoRevAvailWithoutPoints,
@@ -63,7 +63,7 @@ pub enum WholeRule {
 }
 
 impl WholeRule {
-    /// Whether only the certificate of an authority breaks the rule.
+    /// Returns whether only a CA certificate breaks the rule.
     pub fn is_of_authority(self) -> bool
         ensures { IsTrue result → (c : Signed) → BreaksWhole self c → IsAuthority c }
     {
@@ -78,7 +78,7 @@ impl WholeRule {
     }
 }
 
-/// A point has reasons or a cRLIssuer: only such a one may have the issuer of the certificate there.
+/// A point has reasons or a cRLIssuer. Only such a point can have the certificate's issuer there.
 const MORE_THAN_NAME: Fact = Fact::Breaks(ValueRule::Points(PointRule::NameAlone));
 
 /// Returns whether the certificate breaks the rule.
@@ -251,7 +251,7 @@ fn breaks_no_rev_avail_without_ocsp(certificate: &Examined<'_, '_>) -> bool
         && tells(certificate, ValueFact::OcspResponder)
 }
 
-/// Returns whether the certificate says where lists of revoked certificates are.
+/// Returns whether the certificate says where its CRLs are.
 fn has_points(certificate: &Examined<'_, '_>) -> bool
     requires { IsExamined certificate.now }
     ensures { IsTrue result ↔ HasPoints (signed_of certificate.now) }
@@ -260,7 +260,7 @@ fn has_points(certificate: &Examined<'_, '_>) -> bool
         || is_there(certificate, KnownExtension::FreshestCrl)
 }
 
-/// Returns whether a point of the extension has the issuer of the certificate in its cRLIssuer.
+/// Returns whether a point of the extension has the certificate's issuer in its cRLIssuer.
 fn has_point_of_issuer(certificate: &Examined<'_, '_>, known: KnownExtension) -> bool
     requires { IsExamined certificate.now }
     ensures { IsTrue result ↔ HasPointOfIssuer known (signed_of certificate.now) }
@@ -285,7 +285,7 @@ fn has_no_name(certificate: &Certificate<'_>) -> bool
     certificate.tbs_certificate.subject.octets.is_empty()
 }
 
-/// Returns whether the subject is a certification authority.
+/// Returns whether the certificate is a CA's.
 fn is_authority(certificate: &Examined<'_, '_>) -> bool
     requires { IsExamined certificate.now }
     ensures { IsTrue result ↔ IsAuthority (signed_of certificate.now) }
@@ -301,7 +301,7 @@ fn is_there(certificate: &Examined<'_, '_>, known: KnownExtension) -> bool
     has(certificate, known, Fact::Present)
 }
 
-/// Returns whether the extension is there, and critical.
+/// Returns whether the extension is there and critical.
 fn is_critical(certificate: &Examined<'_, '_>, known: KnownExtension) -> bool
     requires { IsExamined certificate.now }
     ensures { IsTrue result ↔ Has known Fact.Critical (signed_of certificate.now) }
@@ -309,7 +309,7 @@ fn is_critical(certificate: &Examined<'_, '_>, known: KnownExtension) -> bool
     has(certificate, known, Fact::Critical)
 }
 
-/// Returns whether the value of the extension that the fact is about says it.
+/// Returns whether the value of the fact's extension says it.
 fn tells(certificate: &Examined<'_, '_>, fact: ValueFact) -> bool
     requires { IsExamined certificate.now }
     ensures { IsTrue result ↔ Tells fact (signed_of certificate.now) }
@@ -317,7 +317,7 @@ fn tells(certificate: &Examined<'_, '_>, fact: ValueFact) -> bool
     has(certificate, fact.extension(), Fact::Says(fact))
 }
 
-/// Returns whether the key may verify signatures of certificates, as far as the certificate says.
+/// Returns whether it is a CA without a keyUsage, or with one that has keyCertSign.
 fn may_sign_certificates(certificate: &Examined<'_, '_>) -> bool
     requires { IsExamined certificate.now }
     ensures { IsTrue result ↔ MaySignCertificates (signed_of certificate.now) }

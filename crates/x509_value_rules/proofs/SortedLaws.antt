@@ -3,20 +3,20 @@ use Rattle.std.proofs.Common.{◌≡◌, ◌≢◌, ℕ, ◌⊎◌, Bool, List, 
 use Rattle.std.specs.Prelude.{◌↔◌}
 use Rattle.std.proofs.lemmas.Bool.{cases_eq}
 use Rattle.std.proofs.lemmas.List.{get_or-replicate, length-replicate}
-use Rattle.der_x509.specs.Certificates.{ExtensionValue, extension}
-use Rattle.der_x509.specs.Formats.{spells}
-use Rattle.der_x509.specs.Lists.{BeginsWithNone}
-use Rattle.der_x509.proofs.CertificateLaws.{extension_exact}
+use Rattle.x509.specs.Certificates.{ExtensionValue, extension}
+use Rattle.x509.specs.Formats.{spells}
+use Rattle.x509.specs.Lists.{BeginsWithNone}
+use Rattle.x509.proofs.CertificateLaws.{extension_exact}
 use Rattle.x509_value_rules.specs.declared.facts.Fact.{Fact}
-use Rattle.x509_rule_facts.specs.declared.known.KnownExtension.{KnownExtension}
+use Rattle.der_extensions.specs.declared.known.KnownExtension.{KnownExtension}
 use Rattle.x509_value_rules.specs.declared.sorted.Slot.{Slot}
 use Rattle.x509_value_rules.specs.declared.sorted.Slot.TheVariants.{Absent, Once, Unsorted}
 use Rattle.x509_value_rules.specs.Facts.{Holds, IsShownBy, Shows}
-use Rattle.x509_rule_facts.specs.Identifiers.{known_count, known_number, octets_of}
+use Rattle.der_extensions.specs.Known.{known_count, known_number, octets_of}
 use Rattle.x509_value_rules.specs.Readings.{IsReadingOf}
 use Rattle.x509_value_rules.specs.Sorted.{AreSlotsOf, IsAfter, IsSlotOf, Puts, slot_of}
-use Rattle.x509_rule_facts.proofs.IdentifierLaws.{few_extensions, one_extension, one_number}
-use Rattle.der_x509.proofs.WalkLaws.{ahead, nowhere}
+use Rattle.der_extensions.proofs.KnownLaws.{few_extensions, one_extension, one_number}
+use Rattle.x509.proofs.WalkLaws.{ahead, nowhere}
 
 -- what extensions with the octets i show, the slot or those that are left show
 abbrev pub IsSlotSoFar : List ℕ → List ℕ → KnownExtension → Slot → Type 0
@@ -28,12 +28,12 @@ pub record SortedSoFar (i left : List ℕ) (slots : List Slot) : Type 0 where
   pub all : length slots ≡ known_count
   pub each : (k : KnownExtension) → IsSlotSoFar i left k (slot_of slots k)
 
-none_yet : (k : KnownExtension) → slot_of (replicate 29 Absent) k ≡ Absent
-none_yet k = get_or-replicate {A = Slot} 29 (known_number k) Absent Unsorted (few_extensions k)
+none_yet : (k : KnownExtension) → slot_of (replicate 30 Absent) k ≡ Absent
+none_yet k = get_or-replicate {A = Slot} 30 (known_number k) Absent Unsorted (few_extensions k)
 
-pub sorted_none : {i left : List ℕ} → left ≡ i → SortedSoFar i left (replicate 29 Absent)
+pub sorted_none : {i left : List ℕ} → left ≡ i → SortedSoFar i left (replicate 30 Absent)
 sorted_none {i = i} {left = left} e = record {
-  all = length-replicate {A = Slot} 29 Absent;
+  all = length-replicate {A = Slot} 30 Absent;
   each = λ k. subst (IsSlotSoFar i left k) (sym (none_yet k)) (λ f. (λ s. subst (Shows k f) (sym e) s, λ s. subst (Shows k f) e s));
 }
 

@@ -7,7 +7,7 @@ use Rattle.der_extensions.specs.Extensions.{AccessDescription, AuthorityInfoAcce
 use Rattle.der_extensions.specs.Extensions.{CertificatePolicies, DistributionPoint, PointNameValue, PointValue}
 use Rattle.der_extensions.specs.Extensions.{PolicyInformation, QualifierValue, full_name, name_relative_to_issuer}
 use Rattle.der_extensions.specs.GeneralNames.{GeneralName, GeneralNames, NameValue}
-use Rattle.der_x509.specs.Rules.{AreIndistinct}
+use Rattle.x509.specs.Rules.{AreIndistinct}
 use Rattle.x509_value_rules.specs.declared.names.NameRule.{NameRule}
 use Rattle.x509_value_rules.specs.declared.names.NameRule.TheVariants as name
 use Rattle.x509_value_rules.specs.declared.notices.QualifierRule.{QualifierRule}
@@ -24,7 +24,8 @@ use Rattle.x509_value_rules.specs.Notices.{BreaksQualifier, HasBrokenQualifier, 
 use Rattle.x509_value_rules.specs.Notices.{IsRemarked}
 use Rattle.x509_value_rules.specs.Points.{BreaksPoint, HasOtherIssuer, IsForAllReasons, IsFullNameBroken, IsBadFullName}
 use Rattle.x509_value_rules.specs.Points.{IsBadPoint}
-use Rattle.x509_value_rules.specs.Policies.{HasOtherQualifier, IsAnyWithOther, IsOtherQualifier, cps, user_notice}
+use Rattle.der_extensions.specs.Notices.{user_notice}
+use Rattle.x509_value_rules.specs.Policies.{HasOtherQualifier, IsAnyWithOther, IsOtherQualifier, cps}
 use Rattle.x509_value_rules.specs.Sound.{IsBadLocation, type_of_rule}
 use Rattle.x509_rule_facts.specs.Types.{IsOfType}
 use Rattle.x509_value_rules.specs.ValueRules.{BreaksValue, IsLocationBroken}
@@ -63,7 +64,8 @@ bad_name name.InternationalMailbox n b = inr (inr (inr (inr (inr (inr (inr (inl 
 bad_name name.OrderedAttributes n b = inr (inr (inr (inr (inr (inr (inr (inr (inl b))))))))
 bad_name name.TypedAttributes n b = inr (inr (inr (inr (inr (inr (inr (inr (inr (inl b)))))))))
 bad_name name.LdapEntry n b = inr (inr (inr (inr (inr (inr (inr (inr (inr (inr (inl b))))))))))
-bad_name name.LdapAttribute n b = inr (inr (inr (inr (inr (inr (inr (inr (inr (inr (inr b))))))))))
+bad_name name.LdapAttribute n b = inr (inr (inr (inr (inr (inr (inr (inr (inr (inr (inr (inl b)))))))))))
+bad_name name.PartyName n b = inr (inr (inr (inr (inr (inr (inr (inr (inr (inr (inr (inr b)))))))))))
 
 module _ {T E : Type 0} {view : T → List ℕ} (w : List ℕ) {x : T} (r : ReadsWhole {E = E} (Only (Required GeneralNames) Der w) view Never (Ok x)) (n : ¬ Among GeneralName IsBadName (view x)) where
   pub sound_names : (q : ValueRule) → type_of_rule q ≡ Some kind.Names → BreaksValue q w → ⊥
@@ -88,6 +90,7 @@ module _ {T E : Type 0} {view : T → List ℕ} (w : List ℕ) {x : T} (r : Read
   sound_names rule.DirectoryName e s = absurd (subst OfNames (sym e) tt)
   sound_names (rule.Locations q) e s = absurd (subst OfNames (sym e) tt)
   sound_names rule.SpecifiedReason e s = absurd (subst OfNames (sym e) tt)
+  sound_names rule.DerValues e s = absurd (subst OfNames (sym e) tt)
 
 -- points
 IsThere : {X : Type 0} → Option X → Type 0
@@ -146,6 +149,7 @@ module _ {T E : Type 0} {view : T → List ℕ} (w : List ℕ) {x : T} (r : Read
   sound_points rule.DirectoryName e s = absurd (subst OfPoints (sym e) tt)
   sound_points (rule.Locations q) e s = absurd (subst OfPoints (sym e) tt)
   sound_points rule.SpecifiedReason e s = absurd (subst OfPoints (sym e) tt)
+  sound_points rule.DerValues e s = absurd (subst OfPoints (sym e) tt)
 
 -- descriptions of accesses
 OfDescriptions : Option ValueType → Type 0
@@ -175,6 +179,7 @@ module _ {T E : Type 0} {view : T → List ℕ} (w : List ℕ) {x : T} (r : Read
   sound_descriptions rule.NaturalNumber e s = absurd (subst OfDescriptions (sym e) tt)
   sound_descriptions rule.WholeSeconds e s = absurd (subst OfDescriptions (sym e) tt)
   sound_descriptions rule.SpecifiedReason e s = absurd (subst OfDescriptions (sym e) tt)
+  sound_descriptions rule.DerValues e s = absurd (subst OfDescriptions (sym e) tt)
 
 -- policies
 other_is_remark : (q : QualifierValue) → IsOtherQualifier q → IsRemark q
@@ -225,3 +230,4 @@ module _ {T E : Type 0} {view : T → List ℕ} (w : List ℕ) {x : T} (r : Read
   sound_policies rule.DirectoryName e s = absurd (subst OfPolicies (sym e) tt)
   sound_policies (rule.Locations q) e s = absurd (subst OfPolicies (sym e) tt)
   sound_policies rule.SpecifiedReason e s = absurd (subst OfPolicies (sym e) tt)
+  sound_policies rule.DerValues e s = absurd (subst OfPolicies (sym e) tt)

@@ -1,14 +1,14 @@
 -- What the extensions of a certificate show.
 use Rattle.std.specs.Prelude.{◌≡◌, ℕ, ◌⊎◌, Bool, false, true, List}
-use Rattle.der_x509.specs.Certificates.{ExtensionValue, Signed, extension}
-use Rattle.der_x509.specs.Lists.{Somewhere}
+use Rattle.x509.specs.Certificates.{ExtensionValue, Signed, extension}
+use Rattle.x509.specs.Lists.{Somewhere}
 use Rattle.x509_value_rules.specs.declared.facts.Fact.{Fact}
 use Rattle.x509_value_rules.specs.declared.facts.Fact.TheVariants.{Present, Critical, NotCritical, Says, Breaks}
-use Rattle.x509_rule_facts.specs.declared.known.KnownExtension.{KnownExtension}
-use Rattle.x509_rule_facts.specs.declared.known.KnownExtension.TheVariants as known
+use Rattle.der_extensions.specs.declared.known.KnownExtension.{KnownExtension}
+use Rattle.der_extensions.specs.declared.known.KnownExtension.TheVariants as known
 use Rattle.x509_rule_facts.specs.declared.value_facts.ValueFact.{ValueFact}
 use Rattle.x509_rule_facts.specs.declared.value_facts.ValueFact.TheVariants.{Authority, KeyCertSign}
-use Rattle.x509_rule_facts.specs.Identifiers.{octets_of}
+use Rattle.der_extensions.specs.Known.{octets_of}
 use Rattle.x509_rule_facts.specs.ValueFacts.{ValueSays, extension_of_fact}
 use Rattle.x509_value_rules.specs.ValueRules.{BreaksValue}
 

@@ -3,6 +3,7 @@ pub mod Facts
 pub mod IssuingPoints
 pub mod Names
 pub mod Notices
+pub mod Parties
 pub mod Points
 pub mod Policies
 pub mod Readings

@@ -8,19 +8,20 @@ use Rattle.der_cursor.specs.Elements.{Element}
 use Rattle.der_extensions.specs.GeneralNames.{GeneralName, NameValue, other_name, rfc822_name, dns_name, x400_address}
 use Rattle.der_extensions.specs.GeneralNames.{directory_name, edi_party_name, ip_address, registered_id}
 use Rattle.der_extensions.specs.GeneralNames.{uniform_resource_identifier}
-use Rattle.der_x509.specs.Rules.{HasDescent}
+use Rattle.x509.specs.Rules.{HasDescent}
 use Rattle.x509_value_rules.specs.declared.names.NameRule.{NameRule}
 use Rattle.x509_rule_facts.specs.declared.mailbox.LocalCharacters.TheVariants.{Ascii, Utf8}
 use Rattle.x509_value_rules.specs.declared.names.NameRule.TheVariants.{NotEmpty, AddressOctets, NotBlank, Scheme, Host}
 use Rattle.x509_value_rules.specs.declared.names.NameRule.TheVariants.{Mailbox, InternationalMailbox, OrderedAttributes}
 use Rattle.x509_value_rules.specs.declared.names.NameRule.TheVariants.{LdapAttribute, LdapEntry, PreferredName}
-use Rattle.x509_value_rules.specs.declared.names.NameRule.TheVariants.{TypedAttributes}
+use Rattle.x509_value_rules.specs.declared.names.NameRule.TheVariants.{PartyName, TypedAttributes}
 use Rattle.x509_rule_facts.specs.Attributes.{HasMistyped}
 use Rattle.x509_value_rules.specs.Directories.{HasSeveralAttributes, IsOddEntry}
 use Rattle.x509_rule_facts.specs.HostNames.{IsPreferredName}
 use Rattle.x509_rule_facts.specs.Lists.{Among}
 use Rattle.x509_rule_facts.specs.Mailboxes.{IsMailbox}
 use Rattle.x509_rule_facts.specs.Uris.{HasNoHost}
+use Rattle.x509_value_rules.specs.Parties.{IsNoParty}
 
 -- a text, an address or a distinguished name of no octets
 abbrev pub IsEmptyName : NameValue → Type 0
@@ -130,6 +131,7 @@ BreaksName OrderedAttributes n = IsDisorderedName n
 BreaksName TypedAttributes n = IsMistypedName n
 BreaksName LdapEntry n = IsOddEntry n
 BreaksName LdapAttribute n = HasSeveralAttributes n
+BreaksName PartyName n = IsNoParty n
 
 -- one of these names does, if there are any
 abbrev pub SomeNameBreaks : NameRule → Option (List ℕ) → Type 0
@@ -140,4 +142,4 @@ SomeNameBreaks r (Some w) = Among GeneralName (BreaksName r) w
 abbrev pub IsBadName : NameValue → Type 0
 IsBadName n = IsEmptyName n ⊎ IsOddAddress n ⊎ IsBlankName n ⊎ IsRelativeName n ⊎ IsHostlessName n ⊎ IsNoMailbox n
     ⊎ IsOtherHost n ⊎ IsNoInternationalMailbox n ⊎ IsDisorderedName n ⊎ IsMistypedName n ⊎ IsOddEntry n
-    ⊎ HasSeveralAttributes n
+    ⊎ HasSeveralAttributes n ⊎ IsNoParty n

@@ -1,21 +1,18 @@
 -- What RFC 5280 asks of the qualifiers of policies (4.2.1.4, with RFC 6818 3).
-use Rattle.std.specs.Prelude.{◌≡◌, ◌≢◌, ℕ, ◌<◌, ◌%◌, ◌⊎◌, true, false, Option, Some, None, List, length}
-use Rattle.std.specs.Option.{IsSomeAnd, option_map}
+use Rattle.std.specs.Prelude.{◌≡◌, ◌≢◌, ℕ, ◌<◌, ◌%◌, ◌⊎◌, false, IfSome, Option, Some, None, List, length}
+use Rattle.std.specs.Option.{IsSomeAnd}
 use Rattle.der_base.specs.declared.header.Class.TheVariants.{Universal}
-use Rattle.der_base.specs.declared.rules.Rules.TheVariants.{Der}
 use Rattle.der_base.specs.Text.{IsTextOf, IsUtf16}
-use Rattle.der_cursor.specs.Formats.{AnyElement, Content, Element, End, Field, Format, IfLeft, Octets, Optional}
-use Rattle.der_cursor.specs.Formats.{Required, Sequence, element_of, ◌⨾◌}
+use Rattle.der_cursor.specs.Formats.{Element, Field, Required}
 use Rattle.der_extensions.specs.Extensions.{PolicyQualifierInfo, PolicyValue, QualifierValue}
+use Rattle.der_extensions.specs.Notices.{IsUserNotice, NoticeValue, user_notice}
 use Rattle.x509_value_rules.specs.declared.notices.NoticeRule.{NoticeRule}
 use Rattle.x509_value_rules.specs.declared.notices.NoticeRule.TheVariants.{NoIa5Text, NoReference, TextSize, Utf8Text}
 use Rattle.x509_value_rules.specs.declared.notices.QualifierRule.{QualifierRule}
 use Rattle.x509_value_rules.specs.declared.notices.QualifierRule.TheVariants.{Notice, NoticeOfType, PointerOfType}
-use Rattle.x509_value_rules.specs.declared.user_notice.NoticeReference.{NoticeReference as ReferenceStruct}
-use Rattle.x509_value_rules.specs.declared.user_notice.UserNotice.{UserNotice as NoticeStruct}
 use Rattle.x509_rule_facts.specs.Attributes.{character_count}
 use Rattle.x509_rule_facts.specs.Lists.{Among}
-use Rattle.x509_value_rules.specs.Policies.{cps, user_notice}
+use Rattle.x509_value_rules.specs.Policies.{cps}
 
 -- a field of which P holds, too
 unfoldable pub Kept : {V : Type 0} → (V → Type 0) → Field V → Field V
@@ -35,42 +32,10 @@ IsPrimitiveType e = (e.0 ≡ Universal) × (e.1 ≡ false)
 abbrev pub IsDisplayText : Element → Type 0
 IsDisplayText e = IsPrimitiveType e × IsDisplayString e.2 e.3
 
--- DisplayText ::= CHOICE { ia5String IA5String, visibleString VisibleString, bmpString BMPString,
---     utf8String UTF8String }, each of SIZE (1..200), which is a rule of its own here
-abbrev pub DisplayText : Field Element
-DisplayText = Kept IsDisplayText AnyElement
-
-abbrev pub ReferenceValue : Type 0
-ReferenceValue = Element × (List ℕ × Unit {0})
-
--- NoticeReference ::= SEQUENCE {
-abbrev pub NoticeReference : Format ReferenceValue
-NoticeReference = Sequence (
-    DisplayText  -- organization     DisplayText,
-    ⨾ (Required (Sequence Octets)  -- noticeNumbers    SEQUENCE OF INTEGER }, whose content isn't asked
-    ⨾ End))
-
-abbrev pub NoticeValue : Type 0
-NoticeValue = Option ReferenceValue × (Option Element × Unit {0})
-
--- UserNotice ::= SEQUENCE {
-abbrev pub UserNotice : Content NoticeValue
-UserNotice = Optional NoticeReference  -- noticeRef        NoticeReference OPTIONAL,
-    ⨾ (IfLeft DisplayText  -- explicitText     DisplayText OPTIONAL }
-    ⨾ End)
-
-abbrev pub reference_of : ReferenceStruct → ReferenceValue
-reference_of x = (element_of x.organization, (x.numbers.now, tt))
-
-abbrev pub notice_of : NoticeStruct → NoticeValue
-notice_of x = (option_map reference_of x.reference, (option_map element_of x.explicit_text, tt))
-
-abbrev pub IsSequence : Element → Type 0
-IsSequence e = (e.0 ≡ Universal) × (e.1 ≡ true) × (e.2 ≡ 16)
-
--- the element is the user notice v
-abbrev pub IsNotice : Element → NoticeValue → Type 0
-IsNotice e v = IsSequence e × UserNotice Der e.3 v
+-- The texts are DisplayTexts: CHOICE { ia5String IA5String, visibleString VisibleString, bmpString BMPString,
+-- utf8String UTF8String }, each of SIZE (1..200), which is a rule of its own here.
+abbrev pub HasDisplayTexts : NoticeValue → Type 0
+HasDisplayTexts v = IfSome v.0 (λ r. IsDisplayText r.0) × IfSome v.1.0 IsDisplayText
 
 -- CPSuri ::= IA5String
 abbrev pub IsPointer : Element → Type 0
@@ -87,11 +52,16 @@ BreaksNotice NoIa5Text v = IsSomeAnd v.1.0 (λ t. t.2 ≡ 22)
 BreaksNotice Utf8Text v = IsSomeAnd v.1.0 (λ t. t.2 ≢ 12)
 BreaksNotice NoReference v = v.0 ≢ None
 
+-- a notice of the right type does
+abbrev pub IsBrokenNotice : NoticeRule → NoticeValue → Type 0
+IsBrokenNotice r v = HasDisplayTexts v × BreaksNotice r v
+
 -- the qualifier breaks the rule
 abbrev pub BreaksQualifier : QualifierRule → QualifierValue → Type 0
 BreaksQualifier PointerOfType q = (q.0 ≡ cps) × (¬ IsPointer q.1.0)
-BreaksQualifier NoticeOfType q = (q.0 ≡ user_notice) × (¬ ((v : NoticeValue) × IsNotice q.1.0 v))
-BreaksQualifier (Notice r) q = (q.0 ≡ user_notice) × ((v : NoticeValue) × IsNotice q.1.0 v × BreaksNotice r v)
+BreaksQualifier NoticeOfType q =
+    (q.0 ≡ user_notice) × (¬ ((v : NoticeValue) × IsUserNotice q.1.0 v × HasDisplayTexts v))
+BreaksQualifier (Notice r) q = (q.0 ≡ user_notice) × ((v : NoticeValue) × IsUserNotice q.1.0 v × IsBrokenNotice r v)
 
 -- one of the qualifiers does, if there are any
 abbrev pub HasBrokenQualifier : QualifierRule → Option (List ℕ) → Type 0

@@ -2,6 +2,7 @@
 use Rattle.std.specs.Prelude.{◌≡◌, ◌≢◌, ℕ, ◌⊎◌, Option, Some, None, List, [], ◌∷◌}
 use Rattle.der_cursor.specs.Formats.{Required}
 use Rattle.der_extensions.specs.Extensions.{PolicyQualifierInfo, PolicyValue, QualifierValue}
+use Rattle.der_extensions.specs.Notices.{user_notice}
 use Rattle.der_extensions.specs.PolicyExtensions.{MappingValue}
 use Rattle.x509_rule_facts.specs.Lists.{Among}
 
@@ -12,10 +13,6 @@ any_policy = 85 ∷ 29 ∷ 32 ∷ 0 ∷ []
 -- id-qt-cps OBJECT IDENTIFIER ::= { id-qt 1 }, where id-qt is 1.3.6.1.5.5.7.2
 abbrev pub cps : List ℕ
 cps = 43 ∷ 6 ∷ 1 ∷ 5 ∷ 5 ∷ 7 ∷ 2 ∷ 1 ∷ []
-
--- id-qt-unotice OBJECT IDENTIFIER ::= { id-qt 2 }
-abbrev pub user_notice : List ℕ
-user_notice = 43 ∷ 6 ∷ 1 ∷ 5 ∷ 5 ∷ 7 ∷ 2 ∷ 2 ∷ []
 
 -- a qualifier that is neither a CPS pointer nor a user notice
 abbrev pub IsOtherQualifier : QualifierValue → Type 0

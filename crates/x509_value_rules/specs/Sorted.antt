@@ -1,12 +1,12 @@
 -- Extensions, sorted by which they are.
 use Rattle.std.specs.Prelude.{◌≡◌, ◌≢◌, ℕ, ◌↔◌, Bool, List, length, slice_index_or}
 use Rattle.x509_value_rules.specs.declared.facts.Fact.{Fact}
-use Rattle.x509_rule_facts.specs.declared.known.KnownExtension.{KnownExtension}
+use Rattle.der_extensions.specs.declared.known.KnownExtension.{KnownExtension}
 use Rattle.x509_value_rules.specs.declared.sorted.Slot.{Slot}
 use Rattle.x509_value_rules.specs.declared.sorted.Slot.TheVariants.{Absent, Once, Unsorted}
 use Rattle.x509_value_rules.specs.declared.sorted.SortedExtensions.{SortedExtensions}
 use Rattle.x509_value_rules.specs.Facts.{Holds, Shows}
-use Rattle.x509_rule_facts.specs.Identifiers.{known_count, known_number}
+use Rattle.der_extensions.specs.Known.{known_count, known_number}
 use Rattle.x509_value_rules.specs.Readings.{IsReadingOf}
 
 -- What the slot of an extension says is so, among extensions with these octets: none is this one; or one is, and

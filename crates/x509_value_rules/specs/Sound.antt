@@ -30,6 +30,7 @@ type_of_rule rule.ShortNumber = Some kind.Number
 type_of_rule rule.NaturalNumber = Some kind.Number
 type_of_rule rule.WholeSeconds = Some kind.Date
 type_of_rule rule.SpecifiedReason = Some kind.Reason
+type_of_rule rule.DerValues = None
 
 -- an accessLocation that breaks a rule of names
 abbrev pub IsBadLocation : AccessValue → Type 0

@@ -1,8 +1,9 @@
--- What RFC 5280 asks of the values of extensions. One that isn't of its type breaks none of the other rules.
+-- What RFC 5280 asks of the values of extensions. One that isn't of its type breaks none of the other rules, unless it
+-- isn't in DER.
 use Rattle.std.specs.Prelude.{◌≡◌, ◌≢◌, ℕ, ◌<◌, ◌⊎◌, pos, ◌<ℤ◌, None, List, [], ◌∷◌, length}
 use Rattle.der_base.specs.Octets.{integer_value}
-use Rattle.crl_reader.specs.declared.reason.Reason.TheVariants.{Unspecified}
-use Rattle.crl_reader.specs.Reasons.{CRLReason}
+use Rattle.x509.specs.declared.crl.reason.Reason.TheVariants.{Unspecified}
+use Rattle.x509.specs.Crl.Reasons.{CRLReason}
 use Rattle.der_cursor.specs.Formats.{GeneralizedTime, Integer, Required}
 use Rattle.der_extensions.specs.Extensions.{AccessDescription, AccessValue, AuthorityInfoAccessSyntax}
 use Rattle.der_extensions.specs.Extensions.{AuthorityKeyIdentifier, AuthorityValue, CRLDistributionPoints}
@@ -10,7 +11,7 @@ use Rattle.der_extensions.specs.Extensions.{CertificatePolicies, DistributionPoi
 use Rattle.der_extensions.specs.GeneralNames.{GeneralName, GeneralNames}
 use Rattle.der_extensions.specs.PolicyExtensions.{PolicyMapping, PolicyMappings}
 use Rattle.der_extensions.specs.Revocation.{IssuingDistributionPoint}
-use Rattle.der_x509.specs.Rules.{AreIndistinct}
+use Rattle.x509.specs.Rules.{AreIndistinct, IsDer}
 use Rattle.x509_value_rules.specs.declared.value_rules.ValueRule.{ValueRule}
 use Rattle.x509_value_rules.specs.declared.value_rules.ValueRule.TheVariants.{OfType, IssuerAndSerial, Names, NotEmpty}
 use Rattle.x509_value_rules.specs.declared.value_rules.ValueRule.TheVariants.{AnyPolicyQualifiers, DistinctPolicies}
@@ -19,7 +20,7 @@ use Rattle.x509_value_rules.specs.declared.value_rules.ValueRule.TheVariants.{Po
 use Rattle.x509_value_rules.specs.declared.value_rules.ValueRule.TheVariants.{NaturalNumber, WholeSeconds}
 use Rattle.x509_value_rules.specs.declared.value_rules.ValueRule.TheVariants.{SpecifiedReason, UnmappedAnyPolicy}
 use Rattle.x509_value_rules.specs.declared.value_rules.ValueRule.TheVariants.{IssuingPoint, Qualifiers, Issuer}
-use Rattle.x509_value_rules.specs.declared.value_rules.ValueRule.TheVariants.{DirectoryName, Locations}
+use Rattle.x509_value_rules.specs.declared.value_rules.ValueRule.TheVariants.{DerValues, DirectoryName, Locations}
 use Rattle.x509_value_rules.specs.declared.names.NameRule.{NameRule}
 use Rattle.x509_value_rules.specs.IssuingPoints.{BreaksIssuingPoint}
 use Rattle.x509_rule_facts.specs.Lists.{Among}
@@ -81,3 +82,4 @@ BreaksValue ShortNumber w = Says Integer (λ v. 20 < length v) w
 BreaksValue NaturalNumber w = Says Integer (λ v. integer_value v <ℤ pos 0) w
 BreaksValue WholeSeconds w = Says GeneralizedTime (λ v. v.nanosecond ≢ None) w
 BreaksValue SpecifiedReason w = Says CRLReason (λ v. v ≡ Unspecified) w
+BreaksValue DerValues w = ¬ IsDer w  -- "extnValue OCTET STRING -- contains the DER encoding of an ASN.1 value" (A.1)

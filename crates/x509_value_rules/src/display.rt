@@ -1,4 +1,4 @@
-//! The texts of rules of values: what is wrong where one is broken, and the section of RFC 5280.
+//! The texts of broken rules of values, with the section of RFC 5280.
 
 use crate::facts::Fact;
 use crate::issuing_point::IssuingPointRule;
@@ -9,7 +9,7 @@ use crate::subtrees::SubtreeRule;
 use crate::value_rules::ValueRule;
 use std::fmt;
 
-/// What an extension shows, after its name: "is critical".
+/// What an extension shows, as it follows the name: "is critical".
 impl fmt::Display for Fact {
     fn fmt<W: fmt::Write>(&self, f: &mut fmt::Formatter<W>) -> fmt::Result {
         match self {
@@ -22,7 +22,7 @@ impl fmt::Display for Fact {
     }
 }
 
-/// What is wrong with a value where the rule is broken, and the section.
+/// The text of a broken rule of a value, with its section.
 pub fn value_text(rule: ValueRule) -> &'static str {
     match rule {
         ValueRule::OfType(_) => "it isn't of its type (RFC 5280 4.2, 5.2, 5.3)",
@@ -46,6 +46,7 @@ pub fn value_text(rule: ValueRule) -> &'static str {
         ValueRule::NaturalNumber => "the number is negative (RFC 5280 4.2.1.14, 5.2.3, 5.2.4)",
         ValueRule::WholeSeconds => "the date has a fraction of a second (RFC 5280 5.3.2)",
         ValueRule::SpecifiedReason => "the reason is unspecified (RFC 5280 5.3.1)",
+        ValueRule::DerValues => "it isn't in DER (X.690 10)",
     }
 }
 
@@ -58,7 +59,7 @@ fn issuing_point_text(rule: IssuingPointRule) -> &'static str {
     }
 }
 
-/// What is wrong with a name where the rule is broken, and the section.
+/// The text of a broken rule of a name, with its section.
 pub fn name_text(rule: NameRule) -> &'static str {
     match rule {
         NameRule::NotEmpty => "a name is empty (RFC 5280 4.2.1.6)",
@@ -76,6 +77,7 @@ pub fn name_text(rule: NameRule) -> &'static str {
         }
         NameRule::LdapAttribute =>
             "an identifier of LDAP has several attributes (RFC 5280 4.2.1.13)",
+        NameRule::PartyName => "an ediPartyName has no partyName, or isn't one (RFC 5280 4.2.1.6)",
         NameRule::OrderedAttributes =>
             "attributes of a directoryName are out of order (X.690 11.6)",
         NameRule::TypedAttributes =>
@@ -83,7 +85,7 @@ pub fn name_text(rule: NameRule) -> &'static str {
     }
 }
 
-/// What is wrong with a subtree where the rule is broken, and the section.
+/// The text of a broken rule of a subtree, with its section.
 pub fn subtree_text(rule: SubtreeRule) -> &'static str {
     match rule {
         SubtreeRule::NoDistance => "a subtree has a minimum or a maximum (RFC 5280 4.2.1.10)",
@@ -99,7 +101,7 @@ pub fn subtree_text(rule: SubtreeRule) -> &'static str {
     }
 }
 
-/// What is wrong with a point where the rule is broken, and the section.
+/// The text of a broken rule of a point, with its section.
 pub fn point_text(rule: PointRule) -> &'static str {
     match rule {
         PointRule::Named => "a point has neither a name nor an issuer (RFC 5280 4.2.1.13)",
@@ -113,7 +115,7 @@ pub fn point_text(rule: PointRule) -> &'static str {
     }
 }
 
-/// What is wrong with a qualifier where the rule is broken, and the section.
+/// The text of a broken rule of a qualifier, with its section.
 pub fn qualifier_text(rule: QualifierRule) -> &'static str {
     match rule {
         QualifierRule::PointerOfType => "a CPS pointer isn't an IA5String (RFC 5280 4.2.1.4)",

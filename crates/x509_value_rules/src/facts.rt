@@ -1,30 +1,30 @@
-//! What an extension shows. Each rule about extensions is made of these.
+//! What an extension shows. Rules about extensions consist of these facts.
 ghost use Rattle.std.specs.Prelude.{◌↔◌, IsTrue};
-ghost use Rattle.der_x509.specs.Certificates.{extension_of};
+ghost use Rattle.x509.specs.Certificates.{extension_of};
 ghost use Rattle.x509_value_rules.specs.Facts.{Holds, IsShownBy, Shows};
 
 use crate::value_rules::{ValueRule, breaks_value};
-use der_x509::{Extension, Extensions};
+use der_extensions::KnownExtension;
+use x509::{Extension, Extensions};
 use x509_rule_facts::identifier::has_octets;
-use x509_rule_facts::known::KnownExtension;
 use x509_rule_facts::value_facts::{ValueFact, says};
 
 /// What an extension may show.
 #[derive(Clone, Copy, Debug, PartialEq)]
 pub enum Fact {
-    /// It is there.
+    /// The extension is there.
     Present,
-    /// It is critical.
+    /// The extension is critical.
     Critical,
-    /// It isn't critical.
+    /// The extension isn't critical.
     NotCritical,
-    /// Its value, which is of its type, says this.
+    /// The value has its type and says this.
     Says(ValueFact),
-    /// Its value, which is of its type, breaks the rule.
+    /// The value breaks the rule.
     Breaks(ValueRule),
 }
 
-/// Returns whether one of the extensions, one with the identifier of `known`, shows the fact.
+/// Returns whether an extension with the identifier of `known` shows the fact.
 #[inline(never)]
 pub fn shows(extensions: Extensions<'_>, known: KnownExtension, fact: Fact) -> bool
     ensures { IsTrue result ↔ Shows known fact extensions.entry.octets.now }
@@ -37,7 +37,7 @@ pub fn shows(extensions: Extensions<'_>, known: KnownExtension, fact: Fact) -> b
     false
 }
 
-/// Returns whether the extension has the identifier of `known`, and shows the fact.
+/// Returns whether the extension has the identifier of `known` and shows the fact.
 fn is_shown_by(known: KnownExtension, fact: Fact, extension: &Extension<'_>) -> bool
     ensures { IsTrue result ↔ IsShownBy known fact (extension_of extension.now) }
 {

@@ -1,4 +1,4 @@
-//! Issuers of lists at a distribution point: which of their names are distinguished names (RFC 5280 4.2.1.13).
+//! CRL issuers of a distribution point (RFC 5280 4.2.1.13).
 ghost use Rattle.std.specs.Prelude.{◌↔◌, IsTrue};
 ghost use Rattle.std.specs.Option.{option_map};
 ghost use Rattle.der_extensions.specs.GeneralNames.{GeneralName as AnyName, name_of};
@@ -8,7 +8,7 @@ ghost use Rattle.x509_value_rules.specs.Points.{HasOtherIssuer, HasSeveralIssuer
 
 use der_extensions::{GeneralName, GeneralNames};
 
-/// Returns whether there are issuers, and more than one distinguished name among them.
+/// Returns whether the issuers have more than one directoryName.
 pub(crate) fn has_several_issuers(issuers: &Option<GeneralNames<'_>>) -> bool
     ensures { IsTrue result ↔ HasSeveralIssuers (option_map list_octets issuers.now) }
 {
@@ -18,7 +18,7 @@ pub(crate) fn has_several_issuers(issuers: &Option<GeneralNames<'_>>) -> bool
     }
 }
 
-/// Returns whether two of the names are distinguished names.
+/// Returns whether two of the names are directoryNames.
 fn has_several(names: &GeneralNames<'_>) -> bool
     ensures { IsTrue result ↔ Twice AnyName IsDistinguished names.now.octets.now }
 {
@@ -34,7 +34,7 @@ fn has_several(names: &GeneralNames<'_>) -> bool
     false
 }
 
-/// Returns whether there are issuers, and one has a name of another kind.
+/// Returns whether one of the issuers has a name of another kind than directoryName.
 pub(crate) fn has_other_issuer(issuers: &Option<GeneralNames<'_>>) -> bool
     ensures { IsTrue result ↔ HasOtherIssuer (option_map list_octets issuers.now) }
 {
@@ -44,7 +44,7 @@ pub(crate) fn has_other_issuer(issuers: &Option<GeneralNames<'_>>) -> bool
     }
 }
 
-/// Returns whether one of the names isn't a distinguished name.
+/// Returns whether one of the names isn't a directoryName.
 fn has_other(names: &GeneralNames<'_>) -> bool
     ensures { IsTrue result ↔ Among AnyName (λ n. ¬ IsDistinguished n) names.now.octets.now }
 {
@@ -56,7 +56,7 @@ fn has_other(names: &GeneralNames<'_>) -> bool
     false
 }
 
-/// Returns whether one of the names is a distinguished name.
+/// Returns whether one of the names is a directoryName.
 pub fn has_distinguished(names: &GeneralNames<'_>) -> bool
     ensures { IsTrue result ↔ Among AnyName IsDistinguished names.now.octets.now }
 {

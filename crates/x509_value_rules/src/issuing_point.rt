@@ -22,7 +22,7 @@ pub enum IssuingPointRule {
     FullNames(NameRule),
 }
 
-/// Returns whether the octets are an issuing distribution point that breaks the rule.
+/// Returns whether the octets are an issuing distribution point and break the rule.
 pub(crate) fn breaks_issuing_point(rule: IssuingPointRule, value: &[u8]) -> bool
     ensures { IsTrue result ↔ BreaksValue (ValueRule.IssuingPoint rule) value.now }
 {
@@ -43,7 +43,7 @@ fn breaks_rule(rule: IssuingPointRule, point: &IssuingDistributionPoint<'_>) -> 
     }
 }
 
-/// Returns whether the point has a fullName, and a name of it breaks the rule.
+/// Returns whether the point has a fullName with a name that breaks the rule.
 fn has_broken_full_name(rule: NameRule, point: &IssuingDistributionPoint<'_>) -> bool
     ensures { IsTrue result ↔ IsSomeAnd (issuing_point_of point.now).0 (IsFullNameBroken rule) }
 {
@@ -53,7 +53,7 @@ fn has_broken_full_name(rule: NameRule, point: &IssuingDistributionPoint<'_>) ->
     }
 }
 
-/// Returns whether the list is said to have only certificates of one kind, and only ones of another.
+/// Returns whether two of the three onlyContains fields are TRUE.
 fn has_two_kinds(point: &IssuingDistributionPoint<'_>) -> bool
     ensures { IsTrue result ↔ HasTwoKinds (issuing_point_of point.now) }
 {

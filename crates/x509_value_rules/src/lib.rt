@@ -1,5 +1,5 @@
-//! Rules of RFC 5280 about the values of extensions: general names, distribution points, name constraints, policies.
-//! And what the extensions of a certificate, of a CRL or of an entry show.
+//! Rules of RFC 5280 about extension values, such as general names and policies, and what the extensions of a
+//! certificate, a CRL or a CRL entry show.
 #![tactic(auto)]
 
 mod directory;
@@ -10,6 +10,7 @@ pub mod issuing_point;
 pub mod mappings;
 pub mod names;
 pub mod notices;
+mod party_name;
 pub mod points;
 pub mod policies;
 mod reading;

@@ -15,10 +15,11 @@ ghost use Rattle.x509_value_rules.specs.Names.{IsRelativeName, SchemeFollows, So
 ghost use Rattle.x509_value_rules.specs.Names.{IsBadName};
 
 use crate::directory::{has_several_attributes, is_odd_entry};
+use crate::party_name::is_no_party;
 use der_base::any::Any;
 use der_base::header::{Class, Tag};
 use der_extensions::{GeneralName, GeneralNames};
-use der_x509::has_descent;
+use x509::has_descent;
 use x509_rule_facts::attributes::has_mistyped;
 use x509_rule_facts::host_name::is_preferred_name;
 use x509_rule_facts::identifier::has_octets;
@@ -35,36 +36,39 @@ pub enum NameRule {
     AddressOctets,
     /// A dNSName isn't " " (4.2.1.6, MUST NOT).
     NotBlank,
-    /// A uniformResourceIdentifier begins with a scheme, a colon and something behind it (4.2.1.6, RFC 3986 3.1,
+    /// A uniformResourceIdentifier begins with a scheme, a colon and at least one octet more (4.2.1.6, RFC 3986 3.1,
     /// MUST).
     Scheme,
-    /// A uniformResourceIdentifier with an authority has a host in it, which is a name or an address (4.2.1.6,
-    /// RFC 3986 3.2, MUST). Whether the name is one of the DNS isn't asked.
+    /// A uniformResourceIdentifier with an authority has a host in it: a name or an address (4.2.1.6, RFC 3986 3.2,
+    /// MUST). The name isn't looked up.
     Host,
     /// An rfc822Name is a mailbox, as "a@a.example" (4.2.1.6, RFC 5321 4.1.2, MUST).
     Mailbox,
-    /// A dNSName is in the preferred name syntax (4.2.1.6, RFC 1034 3.5, RFC 1123 2.1, MUST). A name behind a leading
-    /// "*." is let in, as 4.2.1.6 says.
+    /// A dNSName is in the preferred name syntax, with at most 253 characters (4.2.1.6, RFC 1034 3.1 and 3.5, RFC 1123
+    /// 2.1, MUST). A leading "*." is allowed, as 4.2.1.6 says.
     PreferredName,
-    /// The attributes of each relative name of a directoryName ascend, as a SET OF does by DER (4.2.1.6, 4.1,
-    /// X.690 11.6).
+    /// The attributes of each relative name of a directoryName ascend, as DER requires of a SET OF (4.2.1.6, 4.1, X.690
+    /// 11.6).
     OrderedAttributes,
     /// The attributes of a directoryName that have a type in A.1 have values of it (4.2.1.6, 4.1.2.4).
     TypedAttributes,
-    /// An otherName that is an SmtpUTF8Mailbox is a UTF8String with a mailbox, whose local part isn't of ASCII alone
-    /// and whose domain is (RFC 9598 3, MUST). It doesn't begin with a byte order mark.
+    /// An otherName that is an SmtpUTF8Mailbox is a UTF8String with a mailbox. Its local part has a character beyond
+    /// ASCII, and its domain has none (RFC 9598 3, MUST). It doesn't begin with a byte order mark.
     InternationalMailbox,
-    /// A uniformResourceIdentifier of LDAP has the name of an entry and attributes (4.2.1.13, 4.2.2.1, 4.2.2.2,
-    /// RFC 4516 2, MUST). What these are isn't asked.
+    /// A uniformResourceIdentifier with the scheme ldap names an entry and attributes (4.2.1.13, 4.2.2.1, 4.2.2.2, RFC
+    /// 4516 2, MUST). Their syntax isn't checked.
     LdapEntry,
-    /// A uniformResourceIdentifier of LDAP has no more than one attribute (4.2.1.13, MUST).
+    /// A uniformResourceIdentifier with the scheme ldap names one attribute at most (4.2.1.13, MUST).
     LdapAttribute,
+    /// An ediPartyName has a partyName, perhaps after a nameAssigner, and nothing else. Each is a DirectoryString with
+    /// characters (4.2.1.6, A.1).
+    PartyName,
 }
 
 /// id-on-SmtpUTF8Mailbox: 1.3.6.1.5.5.7.8.9.
 const SMTP_UTF8_MAILBOX: &[u8] = b"\x2b\x06\x01\x05\x05\x07\x08\x09";
 
-/// A dNSName that says that there is no name.
+/// A dNSName that stands for no name.
 const BLANK: &[u8] = b" ";
 
 /// Returns whether one of the names breaks the rule.
@@ -79,7 +83,7 @@ pub fn has_broken_name(rule: NameRule, names: &GeneralNames<'_>) -> bool
     false
 }
 
-/// Returns whether there are names, one of which breaks the rule.
+/// Returns whether there are names, and one breaks the rule.
 pub fn is_one_name_broken(rule: NameRule, names: &Option<GeneralNames<'_>>) -> bool
     ensures { IsTrue result ↔ SomeNameBreaks rule (option_map list_octets names.now) }
 {
@@ -89,7 +93,7 @@ pub fn is_one_name_broken(rule: NameRule, names: &Option<GeneralNames<'_>>) -> b
     }
 }
 
-/// Returns whether one of the names breaks a rule.
+/// Returns whether one of the names breaks any rule.
 pub fn has_bad_name(names: &GeneralNames<'_>) -> bool
     ensures { IsTrue result ↔ Among AnyName IsBadName names.now.octets.now }
 {
@@ -101,7 +105,7 @@ pub fn has_bad_name(names: &GeneralNames<'_>) -> bool
     false
 }
 
-/// Returns whether the name breaks a rule.
+/// Returns whether the name breaks any rule.
 pub fn is_bad_name(name: &GeneralName<'_>) -> bool
     ensures { IsTrue result ↔ IsBadName (name_of name.now) }
 {
@@ -117,6 +121,7 @@ pub fn is_bad_name(name: &GeneralName<'_>) -> bool
         || is_mistyped_name(name)
         || is_odd_entry(name)
         || has_several_attributes(name)
+        || is_no_party(name)
 }
 
 /// Returns whether the name breaks the rule.
@@ -136,6 +141,7 @@ pub fn breaks_name(rule: NameRule, name: &GeneralName<'_>) -> bool
         NameRule::TypedAttributes => is_mistyped_name(name),
         NameRule::LdapEntry => is_odd_entry(name),
         NameRule::LdapAttribute => has_several_attributes(name),
+        NameRule::PartyName => is_no_party(name),
     }
 }
 
@@ -159,7 +165,7 @@ fn is_other_host(name: &GeneralName<'_>) -> bool
     }
 }
 
-/// Returns whether it is a directoryName of which attributes descend.
+/// Returns whether it is a directoryName with attributes out of order.
 fn is_disordered_name(name: &GeneralName<'_>) -> bool
     ensures { IsTrue result ↔ IsDisorderedName (name_of name.now) }
 {
@@ -169,7 +175,7 @@ fn is_disordered_name(name: &GeneralName<'_>) -> bool
     }
 }
 
-/// Returns whether it is a directoryName with an attribute whose value isn't of its type.
+/// Returns whether it is a directoryName with an attribute whose value has another type.
 fn is_mistyped_name(name: &GeneralName<'_>) -> bool
     ensures { IsTrue result ↔ IsMistypedName (name_of name.now) }
 {
@@ -179,7 +185,7 @@ fn is_mistyped_name(name: &GeneralName<'_>) -> bool
     }
 }
 
-/// Returns whether it is an SmtpUTF8Mailbox that isn't as RFC 9598 3 says.
+/// Returns whether it is an SmtpUTF8Mailbox that breaks RFC 9598 3.
 fn is_no_international_mailbox(name: &GeneralName<'_>) -> bool
     ensures { IsTrue result ↔ IsNoInternationalMailbox (name_of name.now) }
 {
@@ -191,7 +197,7 @@ fn is_no_international_mailbox(name: &GeneralName<'_>) -> bool
     }
 }
 
-/// Returns whether the value is a UTF8String with such a mailbox.
+/// Returns whether the value is a UTF8String with an SmtpUTF8Mailbox.
 fn is_international_mailbox(value: &Any<'_>) -> bool
     ensures { IsTrue result ↔ IsInternationalMailbox (element_of value.now) }
 {
@@ -210,7 +216,7 @@ fn is_international_text(octets: &[u8]) -> bool
     }
 }
 
-/// Returns whether the text is a mailbox that has characters beyond ASCII, and begins with no byte order mark.
+/// Returns whether the text is a mailbox with characters beyond ASCII and no byte order mark at the start.
 fn is_local_beyond_ascii(text: &str) -> bool
     ensures { IsTrue result ↔ IsMailboxBeyondAscii text.now }
 {
@@ -219,7 +225,7 @@ fn is_local_beyond_ascii(text: &str) -> bool
         && !begins_with_mark(text.as_bytes())
 }
 
-/// Returns whether an octet isn't one of ASCII.
+/// Returns whether an octet is beyond ASCII.
 fn has_beyond_ascii(octets: &[u8]) -> bool
     ensures { result ≡ list_any (λ b. nat_le 0x80 b) octets.now }
 {
@@ -251,7 +257,7 @@ fn is_empty_name(name: &GeneralName<'_>) -> bool
     }
 }
 
-/// Returns whether it is an address of neither IPv4 nor IPv6.
+/// Returns whether it is an iPAddress of neither IPv4 nor IPv6.
 fn is_odd_address(name: &GeneralName<'_>) -> bool
     ensures { IsTrue result ↔ IsOddAddress (name_of name.now) }
 {
@@ -261,7 +267,7 @@ fn is_odd_address(name: &GeneralName<'_>) -> bool
     }
 }
 
-/// Returns whether it is a dNSName of one space.
+/// Returns whether it is the dNSName " ".
 fn is_blank_name(name: &GeneralName<'_>) -> bool
     ensures { IsTrue result ↔ IsBlankName (name_of name.now) }
 {
@@ -271,7 +277,7 @@ fn is_blank_name(name: &GeneralName<'_>) -> bool
     }
 }
 
-/// Returns whether it is a uniformResourceIdentifier without a scheme, or with nothing behind it.
+/// Returns whether it is a uniformResourceIdentifier without a scheme, or with nothing after it.
 fn is_relative_name(name: &GeneralName<'_>) -> bool
     ensures { IsTrue result ↔ IsRelativeName (name_of name.now) }
 {
@@ -281,7 +287,7 @@ fn is_relative_name(name: &GeneralName<'_>) -> bool
     }
 }
 
-/// Returns whether it is a uniformResourceIdentifier with an authority that has no host.
+/// Returns whether it is a uniformResourceIdentifier with an authority without a host.
 fn is_hostless_name(name: &GeneralName<'_>) -> bool
     ensures { IsTrue result ↔ IsHostlessName (name_of name.now) }
 {
@@ -291,7 +297,7 @@ fn is_hostless_name(name: &GeneralName<'_>) -> bool
     }
 }
 
-/// Returns whether the text begins with a scheme, a colon and something behind it.
+/// Returns whether the text begins with a scheme, a colon and at least one octet more.
 fn has_scheme(text: &[u8]) -> bool
     ensures { IsTrue result ↔ HasScheme text.now }
 {
@@ -307,7 +313,7 @@ fn is_begun(first: u8, rest: &[u8]) -> bool
     first.is_ascii_alphabetic() && scheme_follows(rest)
 }
 
-/// Returns whether characters of a scheme follow, a colon and something behind it.
+/// Returns whether the text is the rest of a scheme, a colon and at least one octet more.
 fn scheme_follows(text: &[u8]) -> bool
     ensures { IsTrue result ↔ SchemeFollows text.now }
 {
@@ -321,14 +327,14 @@ fn scheme_follows(text: &[u8]) -> bool
     false
 }
 
-/// Returns whether the octet is ":", and something is behind it.
+/// Returns whether the octet is ":" with at least one octet after it.
 fn ends_scheme(first: u8, rest: &[u8]) -> bool
     ensures { IsTrue result ↔ ((first ≡ 58) × (rest.now ≢ [])) }
 {
     first == b':' && !rest.is_empty()
 }
 
-/// Returns whether it is a letter, a digit, "+", "-" or ".".
+/// Returns whether the octet is a letter, a digit, "+", "-" or ".".
 fn is_scheme_character(octet: u8) -> bool
     ensures { result ≡ is_scheme_character octet }
 {

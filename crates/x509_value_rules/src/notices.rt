@@ -5,26 +5,30 @@ ghost use Rattle.der_cursor.specs.Formats.{Required, element_of};
 ghost use Rattle.der_extensions.specs.Extensions.{PolicyInformation as PolicyFormat, policy_of, qualifier_of};
 ghost use Rattle.der_extensions.specs.Extensions.{PolicyQualifierInfo as QualifierFormat};
 ghost use Rattle.der_extensions.specs.Lists.{list_octets};
+ghost use Rattle.der_extensions.specs.Notices.{IsUserNotice, NoticeValue, notice_of, reference_of};
 ghost use Rattle.x509_rule_facts.specs.Lists.{Among};
 ghost use Rattle.x509_value_rules.specs.Notices.{BreaksNotice, BreaksQualifier, HasBrokenQualifier, IsBadlyQualified};
-ghost use Rattle.x509_value_rules.specs.Notices.{IsNotice, IsOddSize, IsPointer, NoticeValue, notice_of};
-ghost use Rattle.x509_value_rules.specs.Notices.{reference_of, HasRemark, IsRemark, IsRemarked};
+ghost use Rattle.x509_value_rules.specs.Notices.{HasDisplayTexts, HasRemark, IsBrokenNotice, IsOddSize, IsPointer};
+ghost use Rattle.x509_value_rules.specs.Notices.{IsRemark, IsRemarked};
 
-use crate::policies::{CPS, USER_NOTICE};
-use crate::user_notice::{NoticeReference, UserNotice, is_text_of, read_notice};
+use crate::policies::CPS;
+use crate::user_notice::{has_display_texts, is_text_of};
 use der_base::any::Any;
 use der_base::header::{Class, Tag};
-use der_extensions::{CertificatePolicies, PolicyInformation, PolicyQualifierInfo, SequenceOf};
+use der_extensions::{
+    CertificatePolicies, NoticeReference, PolicyInformation, PolicyQualifierInfo, SequenceOf,
+    USER_NOTICE, UserNotice, read_user_notice,
+};
 use x509_rule_facts::attributes::count_characters;
 use x509_rule_facts::identifier::has_octets;
 
 /// A rule of RFC 5280 about a qualifier of a policy.
 #[derive(Clone, Copy, Debug, PartialEq)]
 pub enum QualifierRule {
-    /// A CPS pointer is an IA5String (4.2.1.4).
+    /// The qualifier of a CPS pointer is an IA5String (4.2.1.4).
     PointerOfType,
-    /// A user notice is a UserNotice, with texts that are IA5Strings, VisibleStrings, BMPStrings or UTF8Strings
-    /// (4.2.1.4). One that isn't breaks none of the other rules.
+    /// The qualifier of a user notice is a UserNotice, with texts that are IA5Strings, VisibleStrings, BMPStrings or
+    /// UTF8Strings (4.2.1.4). Another value breaks no other rule.
     NoticeOfType,
     /// A user notice keeps the rule.
     Notice(NoticeRule),
@@ -46,7 +50,7 @@ pub enum NoticeRule {
 /// The most characters of a text.
 const LONGEST_TEXT: usize = 200;
 
-/// Returns whether one of the policies has another qualifier.
+/// Returns whether one of the policies has a qualifier that isn't a valid CPS pointer.
 pub fn has_remark(policies: &CertificatePolicies<'_>) -> bool
     ensures { IsTrue result ↔ Among (Required PolicyFormat) HasRemark policies.now.octets.now }
 {
@@ -58,7 +62,7 @@ pub fn has_remark(policies: &CertificatePolicies<'_>) -> bool
     false
 }
 
-/// Returns whether there are qualifiers, one of which is another one.
+/// Returns whether there are qualifiers, and one isn't a valid CPS pointer.
 fn is_remarked<'a>(qualifiers: &Option<SequenceOf<'a, PolicyQualifierInfo<'a>>>) -> bool
     ensures { IsTrue result ↔ IsRemarked (option_map list_octets qualifiers.now) }
 {
@@ -68,7 +72,7 @@ fn is_remarked<'a>(qualifiers: &Option<SequenceOf<'a, PolicyQualifierInfo<'a>>>)
     }
 }
 
-/// Returns whether one of the qualifiers is another one.
+/// Returns whether one of the qualifiers isn't a valid CPS pointer.
 fn is_one_remark<'a>(qualifiers: &SequenceOf<'a, PolicyQualifierInfo<'a>>) -> bool
     ensures { IsTrue result ↔ Among (Required QualifierFormat) IsRemark qualifiers.now.octets.now }
 {
@@ -80,14 +84,14 @@ fn is_one_remark<'a>(qualifiers: &SequenceOf<'a, PolicyQualifierInfo<'a>>) -> bo
     false
 }
 
-/// Returns whether the qualifier is anything but a CPS pointer that is of its type.
+/// Returns whether the qualifier isn't a valid CPS pointer: an IA5String under id-qt-cps.
 fn is_remark(qualifier: &PolicyQualifierInfo<'_>) -> bool
     ensures { IsTrue result ↔ IsRemark (qualifier_of qualifier.now) }
 {
     !has_octets(&qualifier.policy_qualifier_id, CPS) || !is_pointer(&qualifier.qualifier)
 }
 
-/// Returns whether one of the policies has such a qualifier.
+/// Returns whether one of the policies has a qualifier that breaks the rule.
 pub fn has_badly_qualified(rule: QualifierRule, policies: &CertificatePolicies<'_>) -> bool
     ensures { IsTrue result ↔ Among (Required PolicyFormat) (IsBadlyQualified rule) policies.now.octets.now }
 {
@@ -105,7 +109,7 @@ fn is_badly_qualified(rule: QualifierRule, policy: &PolicyInformation<'_>) -> bo
     has_broken_qualifier(rule, &policy.policy_qualifiers)
 }
 
-/// Returns whether there are qualifiers, one of which breaks the rule.
+/// Returns whether there are qualifiers, and one breaks the rule.
 fn has_broken_qualifier<'a>(
     rule: QualifierRule,
     qualifiers: &Option<SequenceOf<'a, PolicyQualifierInfo<'a>>>,
@@ -162,10 +166,10 @@ fn is_pointer(element: &Any<'_>) -> bool
 }
 
 fn is_notice(element: &Any<'_>) -> bool
-    ensures { IsTrue result ↔ ((v : NoticeValue) × IsNotice (element_of element.now) v) }
+    ensures { IsTrue result ↔ ((v : NoticeValue) × IsUserNotice (element_of element.now) v × HasDisplayTexts v) }
 {
-    match read_notice(element) {
-        Ok(_) => true,
+    match read_user_notice(element) {
+        Ok(notice) => has_display_texts(&notice),
         Err(_) => false,
     }
 }
@@ -173,12 +177,19 @@ fn is_notice(element: &Any<'_>) -> bool
 /// Returns whether it is a user notice that breaks the rule.
 fn is_broken_notice(rule: NoticeRule, element: &Any<'_>) -> bool
     ensures { IsTrue result
-        ↔ ((v : NoticeValue) × IsNotice (element_of element.now) v × BreaksNotice rule v) }
+        ↔ ((v : NoticeValue) × IsUserNotice (element_of element.now) v × IsBrokenNotice rule v) }
 {
-    match read_notice(element) {
-        Ok(notice) => breaks_notice(rule, &notice),
+    match read_user_notice(element) {
+        Ok(notice) => breaks_displayed(rule, &notice),
         Err(_) => false,
     }
+}
+
+/// Returns whether the texts of a user notice are of their types, and it breaks the rule.
+fn breaks_displayed(rule: NoticeRule, notice: &UserNotice<'_>) -> bool
+    ensures { IsTrue result ↔ IsBrokenNotice rule (notice_of notice.now) }
+{
+    has_display_texts(notice) && breaks_notice(rule, notice)
 }
 
 /// Returns whether the user notice breaks the rule.
@@ -195,7 +206,7 @@ fn breaks_notice(rule: NoticeRule, notice: &UserNotice<'_>) -> bool
     }
 }
 
-/// Returns whether there is a text, and it hasn't 1 to 200 characters.
+/// Returns whether there is a text without 1 to 200 characters.
 fn is_odd_text(text: &Option<Any<'_>>) -> bool
     ensures { IsTrue result ↔ IsSomeAnd (option_map element_of text.now) IsOddSize }
 {
@@ -205,7 +216,7 @@ fn is_odd_text(text: &Option<Any<'_>>) -> bool
     }
 }
 
-/// Returns whether there is a reference, and the organization hasn't 1 to 200 characters.
+/// Returns whether there is a reference whose organization doesn't have 1 to 200 characters.
 fn is_odd_reference(reference: &Option<NoticeReference<'_>>) -> bool
     ensures { IsTrue result ↔ IsSomeAnd (option_map reference_of reference.now) (λ r. IsOddSize r.0) }
 {
@@ -222,7 +233,7 @@ fn is_odd_size(text: &Any<'_>) -> bool
     count == 0 || count > LONGEST_TEXT
 }
 
-/// Returns whether there is a text that is an IA5String.
+/// Returns whether there is a text, and it is an IA5String.
 fn is_ia5_text(text: &Option<Any<'_>>) -> bool
     ensures { IsTrue result ↔ IsSomeAnd (option_map element_of text.now) (λ t. t.2 ≡ 22) }
 {
@@ -232,7 +243,7 @@ fn is_ia5_text(text: &Option<Any<'_>>) -> bool
     }
 }
 
-/// Returns whether there is a text that isn't a UTF8String.
+/// Returns whether there is a text, and it isn't a UTF8String.
 fn is_other_text(text: &Option<Any<'_>>) -> bool
     ensures { IsTrue result ↔ IsSomeAnd (option_map element_of text.now) (λ t. t.2 ≢ 12) }
 {

@@ -16,13 +16,13 @@ use der_extensions::{CrlDistributionPoints, DistributionPoint, DistributionPoint
 pub enum PointRule {
     /// It has a distributionPoint or a cRLIssuer (4.2.1.13, MUST).
     Named,
-    /// Its name isn't relative to that of the issuer (4.2.1.13, SHOULD NOT).
+    /// Its name isn't relative to the issuer's (4.2.1.13, SHOULD NOT).
     FullName,
-    /// It has neither reasons nor a cRLIssuer (5.2.6 of a list of revoked certificates, MUST).
+    /// It has neither reasons nor a cRLIssuer (freshestCRL of a CRL, 5.2.6, MUST).
     NameAlone,
-    /// Its cRLIssuer has no names but directoryNames (4.2.1.13, MUST).
+    /// Its cRLIssuer has directoryNames only (4.2.1.13, MUST).
     NamedIssuers,
-    /// Its name isn't relative where its cRLIssuer has more than one directoryName (4.2.1.13, MUST NOT).
+    /// Its name isn't relative if its cRLIssuer has more than one directoryName (4.2.1.13, MUST NOT).
     RelativeToOneIssuer,
     /// The names of its cRLIssuer keep the rule of names (4.2.1.13, 4.2.1.6).
     Issuers(NameRule),
@@ -42,7 +42,7 @@ pub fn has_broken_point(rule: PointRule, points: &CrlDistributionPoints<'_>) -> 
     false
 }
 
-/// Returns whether one of the points breaks a rule.
+/// Returns whether one of the points is anything but a fullName of valid names.
 pub fn has_bad_point(points: &CrlDistributionPoints<'_>) -> bool
     ensures { IsTrue result ↔ Among (Required PointFormat) IsBadPoint points.now.octets.now }
 {
@@ -54,7 +54,7 @@ pub fn has_bad_point(points: &CrlDistributionPoints<'_>) -> bool
     false
 }
 
-/// Returns whether the point has anything but a fullName whose names keep the rules of names.
+/// Returns whether the point is anything but a fullName of valid names.
 fn is_bad_point(point: &DistributionPoint<'_>) -> bool
     ensures { IsTrue result ↔ IsBadPoint (point_of point.now) }
 {
@@ -81,21 +81,21 @@ fn breaks_point(rule: PointRule, point: &DistributionPoint<'_>) -> bool
     }
 }
 
-/// Returns whether the point has neither a name nor an issuer of lists.
+/// Returns whether the point has neither a name nor a CRL issuer.
 fn is_unnamed(point: &DistributionPoint<'_>) -> bool
     ensures { IsTrue result ↔ IsUnnamed (point_of point.now) }
 {
     point.distribution_point.is_none() && point.crl_issuer.is_none()
 }
 
-/// Returns whether the point has reasons or an issuer of lists.
+/// Returns whether the point has reasons or a CRL issuer.
 fn has_more_than_name(point: &DistributionPoint<'_>) -> bool
     ensures { IsTrue result ↔ HasMoreThanName (point_of point.now) }
 {
     point.reasons.is_some() || point.crl_issuer.is_some()
 }
 
-/// Returns whether the name of the point is relative to that of the issuer.
+/// Returns whether the name of the point is relative to the issuer's.
 fn has_relative_name(point: &DistributionPoint<'_>) -> bool
     ensures { IsTrue result ↔ HasRelativeName (point_of point.now) }
 {
@@ -114,7 +114,7 @@ fn is_relative(name: &DistributionPointName<'_>) -> bool
     }
 }
 
-/// Returns whether the point has a fullName, and a name of it breaks the rule.
+/// Returns whether the point has a fullName with a name that breaks the rule.
 fn has_broken_full_name(rule: NameRule, point: &DistributionPoint<'_>) -> bool
     ensures { IsTrue result ↔ IsSomeAnd (point_of point.now).0 (IsFullNameBroken rule) }
 {
@@ -124,7 +124,7 @@ fn has_broken_full_name(rule: NameRule, point: &DistributionPoint<'_>) -> bool
     }
 }
 
-/// Returns whether it is a fullName, and a name of it breaks the rule.
+/// Returns whether it is a fullName with a name that breaks the rule.
 pub fn is_full_name_broken(rule: NameRule, name: &DistributionPointName<'_>) -> bool
     ensures { IsTrue result ↔ IsFullNameBroken rule (point_name_of name.now) }
 {
@@ -134,7 +134,7 @@ pub fn is_full_name_broken(rule: NameRule, name: &DistributionPointName<'_>) -> 
     }
 }
 
-/// Returns whether the point has a fullName, and a name of it breaks a rule.
+/// Returns whether the point has a fullName with a name that breaks any rule.
 fn has_bad_full_name(point: &DistributionPoint<'_>) -> bool
     ensures { IsTrue result ↔ IsSomeAnd (point_of point.now).0 IsBadFullName }
 {

@@ -8,7 +8,9 @@ ghost use Rattle.der_extensions.specs.Lists.{list_octets};
 ghost use Rattle.x509_rule_facts.specs.Lists.{Among};
 ghost use Rattle.x509_value_rules.specs.Policies.{HasOtherQualifier, IsAnyWithOther, IsOtherQualifier};
 
-use der_extensions::{CertificatePolicies, PolicyInformation, PolicyQualifierInfo, SequenceOf};
+use der_extensions::{
+    CertificatePolicies, PolicyInformation, PolicyQualifierInfo, SequenceOf, USER_NOTICE,
+};
 use x509_rule_facts::identifier::has_octets;
 
 /// anyPolicy: 2.5.29.32.0.
@@ -17,10 +19,7 @@ pub(crate) const ANY_POLICY: &[u8] = b"\x55\x1d\x20\x00";
 /// id-qt-cps: 1.3.6.1.5.5.7.2.1.
 pub(crate) const CPS: &[u8] = b"\x2b\x06\x01\x05\x05\x07\x02\x01";
 
-/// id-qt-unotice: 1.3.6.1.5.5.7.2.2.
-pub(crate) const USER_NOTICE: &[u8] = b"\x2b\x06\x01\x05\x05\x07\x02\x02";
-
-/// Returns whether one of the policies is anyPolicy with such a qualifier.
+/// Returns whether one of the policies is anyPolicy with a qualifier other than CPS pointer and user notice.
 pub fn has_any_with_other(policies: &CertificatePolicies<'_>) -> bool
     ensures { IsTrue result ↔ Among (Required PolicyFormat) IsAnyWithOther policies.now.octets.now }
 {
@@ -39,7 +38,7 @@ fn is_any_with_other(policy: &PolicyInformation<'_>) -> bool
         && has_other_qualifier(&policy.policy_qualifiers)
 }
 
-/// Returns whether there are qualifiers, one of which is such a one.
+/// Returns whether there are qualifiers, and one is neither a CPS pointer nor a user notice.
 fn has_other_qualifier<'a>(qualifiers: &Option<SequenceOf<'a, PolicyQualifierInfo<'a>>>) -> bool
     ensures { IsTrue result ↔ HasOtherQualifier (option_map list_octets qualifiers.now) }
 {
@@ -49,7 +48,7 @@ fn has_other_qualifier<'a>(qualifiers: &Option<SequenceOf<'a, PolicyQualifierInf
     }
 }
 
-/// Returns whether one of the qualifiers is such a one.
+/// Returns whether one of the qualifiers is neither a CPS pointer nor a user notice.
 fn is_one_other<'a>(qualifiers: &SequenceOf<'a, PolicyQualifierInfo<'a>>) -> bool
     ensures { IsTrue result ↔ Among (Required QualifierFormat) IsOtherQualifier qualifiers.now.octets.now }
 {

@@ -1,4 +1,4 @@
-//! What one reading of a value finds. Each rule about the value would read it anew.
+//! The results of reading a value once. Without them, each rule about the value would read it again.
 ghost use Rattle.std.specs.Prelude.{◌≡◌, ◌↔◌, Bool, IfSome, IsTrue, List, Some, ℕ};
 ghost use Rattle.x509_value_rules.specs.Facts.{Holds};
 ghost use Rattle.x509_value_rules.specs.Readings.{IsReadingOf, NamesNoIssuer};
@@ -13,40 +13,39 @@ use crate::notices::has_remark;
 use crate::points::{has_bad_point, has_whole_point};
 use crate::value_rules::{ValueRule, are_sound_descriptions, is_half, lacks_issuer};
 use der_extensions::{
-    read_authority_key_identifier, read_basic_constraints, read_certificate_policies,
-    read_crl_distribution_points, read_general_names, read_key_usage,
+    KnownExtension, read_authority_key_identifier, read_basic_constraints,
+    read_certificate_policies, read_crl_distribution_points, read_general_names, read_key_usage,
 };
-use der_x509::are_indistinct;
-use x509_rule_facts::known::KnownExtension;
+use x509::are_indistinct;
 use x509_rule_facts::types::ValueType;
 use x509_rule_facts::value_facts::{ValueFact, has_key_identifier, has_path_length};
 
-/// What was found of the value of an extension.
+/// What reading the value of an extension found.
 #[derive(Clone, Copy)]
 pub enum Reading {
-    /// Nothing: nobody has looked, or it isn't of its type, or it breaks a rule.
+    /// The value wasn't read, has another type or breaks a rule.
     Nothing,
-    /// It breaks no rule of this type.
+    /// The value has this type and breaks no rule about it.
     Sound(ValueType),
-    /// It is a BasicConstraints.
+    /// The value is a BasicConstraints.
     Constraints {
         /// cA is TRUE.
         is_authority: bool,
         /// There is a pathLenConstraint.
         has_path_length: bool,
     },
-    /// It is a KeyUsage.
+    /// The value is a KeyUsage.
     KeyUsage {
-        /// keyCertSign is among the bits.
+        /// keyCertSign is set.
         signs_certificates: bool,
-        /// cRLSign is.
+        /// cRLSign is set.
         signs_lists: bool,
     },
-    /// It is an AuthorityKeyIdentifier.
+    /// The value is an AuthorityKeyIdentifier.
     KeyIdentifiers {
         /// There is a keyIdentifier.
         has_identifier: bool,
-        /// There is an issuer without a serial number, or a serial number without an issuer.
+        /// Only one of issuer and serial number is there.
         is_half: bool,
         /// There is no issuer.
         lacks_issuer: bool,
@@ -81,7 +80,7 @@ fn read_names(value: &[u8]) -> Reading
     }
 }
 
-/// Returns whether the octets are general names, none of which breaks a rule.
+/// Returns whether the octets are general names that break no rule.
 fn are_sound_names(value: &[u8]) -> bool
     ensures { IsTrue result → IsSound ValueType.Names value.now }
 {
@@ -101,8 +100,7 @@ fn read_policies(value: &[u8]) -> Reading
     }
 }
 
-/// Returns whether the octets are certificate policies that are all different, with no qualifiers but CPS pointers that
-/// are of their type.
+/// Returns whether the octets are distinct certificate policies whose only qualifiers are valid CPS pointers.
 fn are_sound_policies(value: &[u8]) -> bool
     ensures { IsTrue result → IsSound ValueType.Policies value.now }
 {
@@ -122,7 +120,7 @@ fn read_points(value: &[u8]) -> Reading
     }
 }
 
-/// Returns whether the octets are distribution points, none of which breaks a rule, and one is for all reasons.
+/// Returns whether the octets are distribution points that break no rule, at least one of them for all reasons.
 fn are_sound_points(value: &[u8]) -> bool
     ensures { IsTrue result → IsSound ValueType.Points value.now }
 {
@@ -180,7 +178,7 @@ fn read_key_identifiers(value: &[u8]) -> Reading
 }
 
 impl Reading {
-    /// Returns whether the value shows the fact, if that was found.
+    /// Returns whether the value shows the fact; None if the reading doesn't tell.
     pub fn shows(self, fact: Fact) -> Option<bool>
         ensures { (c : Bool) (w : List ℕ) → IsReadingOf self w → IfSome result (λ b. IsTrue b ↔ Holds fact c w) }
     {
@@ -191,7 +189,7 @@ impl Reading {
         }
     }
 
-    /// Returns whether the value says so, if that was found.
+    /// Returns whether the value says the fact; None if the reading doesn't tell.
     fn says(self, fact: ValueFact) -> Option<bool>
         ensures { (w : List ℕ) → IsReadingOf self w → IfSome result (λ b. IsTrue b ↔ ValueSays fact w) }
     {
@@ -219,7 +217,7 @@ impl Reading {
         }
     }
 
-    /// Returns whether the value breaks the rule, if that was found.
+    /// Returns whether the value breaks the rule; None if the reading doesn't tell.
     fn breaks(self, rule: ValueRule) -> Option<bool>
         ensures { (w : List ℕ) → IsReadingOf self w → IfSome result (λ b. IsTrue b ↔ BreaksValue rule w) }
     {
@@ -237,7 +235,7 @@ impl Reading {
     }
 }
 
-/// Returns whether a value that breaks no rule of the type breaks this rule, if that is known.
+/// Returns whether a value that breaks no rule about its type breaks this rule, if that is known.
 fn sound_breaks(kind: ValueType, rule: ValueRule) -> Option<bool>
     ensures { (w : List ℕ) → IsSound kind w → IfSome result (λ b. IsTrue b ↔ BreaksValue rule w) }
 {
@@ -258,15 +256,14 @@ fn read_breaks(kind: ValueType, rule: ValueRule) -> Option<bool>
     }
 }
 
-/// Returns that a value of the first type is of the second, if they are one.
+/// Returns false if the types are the same. Else None: a value may have both types.
 fn is_no_other(kind: ValueType, asked: ValueType) -> Option<bool>
     ensures { (w : List ℕ) → IsOfType kind w → IfSome result (λ b. IsTrue b ↔ (¬ IsOfType asked w)) }
 {
     if asked == kind { Some(false) } else { None }
 }
 
-/// Returns whether an AuthorityKeyIdentifier, one with half of issuer and serial number or not, and with an issuer or
-/// not, breaks the rule, if that is known.
+/// Returns whether an AuthorityKeyIdentifier breaks the rule, if that is known.
 fn key_identifiers_break(is_half: bool, lacks_issuer: bool, rule: ValueRule) -> Option<bool>
     ensures { (w : List ℕ) → IsOfType ValueType.KeyIdentifiers w
         → IsTrue is_half ↔ BreaksValue ValueRule.IssuerAndSerial w → NamesNoIssuer lacks_issuer w
@@ -279,7 +276,7 @@ fn key_identifiers_break(is_half: bool, lacks_issuer: bool, rule: ValueRule) -> 
     }
 }
 
-/// Returns that no name of an issuer breaks the rule, if there is none.
+/// Returns false if there is no issuer, so that none of its names breaks the rule.
 fn no_issuer_breaks(lacks_issuer: bool, rule: NameRule) -> Option<bool>
     ensures { (w : List ℕ) → NamesNoIssuer lacks_issuer w
         → IfSome result (λ b. IsTrue b ↔ BreaksValue (ValueRule.Issuer rule) w) }
@@ -287,7 +284,7 @@ fn no_issuer_breaks(lacks_issuer: bool, rule: NameRule) -> Option<bool>
     if lacks_issuer { Some(false) } else { None }
 }
 
-/// Returns whether the rule is about the type.
+/// Returns whether the rule is about values of the type.
 fn is_about(rule: ValueRule, kind: ValueType) -> bool
     ensures { IsTrue result ↔ (type_of_rule rule ≡ Some kind) }
 {

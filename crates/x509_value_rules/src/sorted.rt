@@ -1,32 +1,30 @@
-//! Extensions, sorted by which they are, so that rules about them need not walk them.
+//! Extensions by identifier, so that rules about them needn't walk the list.
 ghost use Rattle.std.specs.Prelude.{◌≡◌, ◌↔◌, IsTrue, length};
 ghost use Rattle.x509_value_rules.specs.Facts.{Holds, Shows};
-ghost use Rattle.x509_rule_facts.specs.Identifiers.{known_count};
+ghost use Rattle.der_extensions.specs.Known.{known_count};
 ghost use Rattle.x509_value_rules.specs.Readings.{IsReadingOf};
 ghost use Rattle.x509_value_rules.specs.Sorted.{AreSlotsOf, IsAfter, IsSorted, Puts};
 
 use crate::facts::{Fact, holds, shows};
 use crate::reading::{Reading, read_value};
-use der_x509::Extensions;
-use x509_rule_facts::identified::known_extension;
-use x509_rule_facts::identifier::absolute_octets;
-use x509_rule_facts::known::{KNOWN_EXTENSIONS, KnownExtension};
+use der_extensions::{KNOWN_EXTENSIONS, KnownExtension, known_extension};
+use x509::{Extensions, absolute_octets};
 
-/// The most questions for which no names and values are read ahead: each question reads what it is about.
+/// The most questions for which names and values aren't read ahead. Each question then reads what it needs.
 pub const FEW_QUESTIONS: usize = 24;
 
-/// What is known of the extensions with one identifier.
+/// The extensions with one identifier.
 #[derive(Clone, Copy)]
 pub enum Slot<'a> {
-    /// There is none.
+    /// There is no such extension.
     Absent,
-    /// There is one: whether it is critical, its value, and what was found of that.
+    /// There is one: whether it is critical, its value, and the reading of its value.
     Once(bool, &'a [u8], Reading),
-    /// There are several, or nobody has looked. Each question walks the extensions.
+    /// There are several, or the list wasn't walked. Each question walks the extensions.
     Unsorted,
 }
 
-/// Extensions, and a slot for each that is known.
+/// Extensions, with a slot for each known identifier.
 #[derive(Drop)]
 pub struct SortedExtensions<'a> {
     pub extensions: Extensions<'a>,
@@ -34,7 +32,7 @@ pub struct SortedExtensions<'a> {
 }
 
 impl<'a> SortedExtensions<'a> {
-    /// Sorts them, in one walk. It reads values too, if the caller wants that.
+    /// Sorts the extensions in one walk; with `reads_ahead`, reads their values too.
     pub fn sort(extensions: Extensions<'a>, reads_ahead: bool) -> SortedExtensions<'a>
         ensures extensions { result.extensions.octets.now ≡ extensions.entry.octets.now }
         ensures sorted { IsSorted result }
@@ -43,7 +41,7 @@ impl<'a> SortedExtensions<'a> {
         SortedExtensions { extensions, slots }
     }
 
-    /// Leaves them as they are, for who asks once.
+    /// Leaves the extensions unsorted, for a single question.
     pub fn unsorted(extensions: Extensions<'a>) -> SortedExtensions<'a>
         ensures extensions { result.extensions.octets.now ≡ extensions.entry.octets.now }
         ensures sorted { IsSorted result }
@@ -52,7 +50,7 @@ impl<'a> SortedExtensions<'a> {
         SortedExtensions { extensions, slots }
     }
 
-    /// Returns whether one of them, one with the identifier of `known`, shows the fact.
+    /// Returns whether an extension with the identifier of `known` shows the fact.
     #[inline(always)]
     pub fn show(&self, known: KnownExtension, fact: Fact) -> bool
         requires { IsSorted self.now }
@@ -66,7 +64,7 @@ impl<'a> SortedExtensions<'a> {
     }
 }
 
-/// Returns whether the one extension of a slot shows the fact.
+/// Returns whether the only extension of a slot shows the fact.
 #[inline(never)]
 fn holds_once(fact: Fact, critical: bool, value: &[u8], reading: Reading) -> bool
     requires { IsReadingOf reading value.now }
@@ -78,7 +76,7 @@ fn holds_once(fact: Fact, critical: bool, value: &[u8], reading: Reading) -> boo
     }
 }
 
-/// Returns what the slots of the extensions hold. Values are read, if they are to be read ahead.
+/// Returns the slots of the extensions; with `reads_ahead`, their values are read.
 fn slots_of<'a>(extensions: Extensions<'a>, reads_ahead: bool) -> [Slot<'a>; KNOWN_EXTENSIONS]
     ensures { AreSlotsOf extensions.entry.octets.now result }
 {
@@ -113,7 +111,7 @@ fn put<'a>(
     slots[number] = slots[number].after(critical, value, reading);
 }
 
-/// Reads the value of an extension, if it is to be read ahead.
+/// Reads the value of an extension if `reads_ahead`.
 fn reading_of(reads_ahead: bool, known: KnownExtension, value: &[u8]) -> Reading
     ensures { IsReadingOf result value.now }
 {
@@ -125,7 +123,7 @@ fn reading_of(reads_ahead: bool, known: KnownExtension, value: &[u8]) -> Reading
 }
 
 impl<'a> Slot<'a> {
-    /// What it is after one more extension.
+    /// The slot after one more extension.
     fn after(self, critical: bool, value: &'a [u8], reading: Reading) -> Slot<'a>
         requires { IsReadingOf reading value.now }
         ensures { IsAfter self.entry critical value.now result }

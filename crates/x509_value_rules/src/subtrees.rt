@@ -21,24 +21,24 @@ use x509_rule_facts::mailbox::{LocalCharacters, is_mailbox};
 pub enum SubtreeRule {
     /// The minimum is 0, and there is no maximum (4.2.1.10, MUST).
     NoDistance,
-    /// An iPAddress is one of IPv4 or IPv6 with a mask: it has 8 or 32 octets (4.2.1.10, MUST).
+    /// An iPAddress is an address of IPv4 or IPv6 and a mask: it has 8 or 32 octets (4.2.1.10, MUST).
     NetworkOctets,
-    /// The mask of an iPAddress, its second half, has bits 1 and then bits 0, as one of an address range has
-    /// (4.2.1.10, RFC 4632 3.1, MUST).
+    /// The mask of an iPAddress, its second half, is bits 1 and then bits 0, as for an address range (4.2.1.10, RFC
+    /// 4632 3.1, MUST).
     NetworkMask,
-    /// A uniformResourceIdentifier is the name of a host, or that of a domain with "." before it (4.2.1.10, MUST).
+    /// A uniformResourceIdentifier is a host name, or "." and a domain name (4.2.1.10, MUST).
     HostOrDomain,
-    /// An rfc822Name is a mailbox, the name of a host, or that of a domain with "." before it (4.2.1.10).
+    /// An rfc822Name is a mailbox, a host name, or "." and a domain name (4.2.1.10).
     MailboxOrHost,
-    /// A dNSName is the name of a host, or empty, so that it is part of all names (4.2.1.10).
+    /// A dNSName is a host name, or empty, which matches all names (4.2.1.10).
     DomainName,
     /// Its base keeps the rule of names (4.2.1.10, 4.2.1.6).
     Base(NameRule),
-    /// It isn't one of an x400Address, an ediPartyName or a registeredID (4.2.1.10, SHOULD NOT).
+    /// Its base isn't an x400Address, an ediPartyName or a registeredID (4.2.1.10, SHOULD NOT).
     UsualName,
 }
 
-/// Returns whether a permitted or an excluded subtree breaks the rule.
+/// Returns whether a permitted or excluded subtree breaks the rule.
 pub fn has_broken_subtree(rule: SubtreeRule, constraints: &NameConstraints<'_>) -> bool
     ensures { IsTrue result ↔ HasBrokenSubtree rule (name_constraints_of constraints.now) }
 {
@@ -46,7 +46,7 @@ pub fn has_broken_subtree(rule: SubtreeRule, constraints: &NameConstraints<'_>) 
         || has_broken(rule, &constraints.excluded_subtrees)
 }
 
-/// Returns whether there are subtrees, one of which breaks the rule.
+/// Returns whether there are subtrees, and one breaks the rule.
 fn has_broken<'a>(rule: SubtreeRule, subtrees: &Option<SequenceOf<'a, GeneralSubtree<'a>>>) -> bool
     ensures { IsTrue result ↔ SomeBroken rule (option_map list_octets subtrees.now) }
 {
@@ -91,7 +91,7 @@ fn has_distance(subtree: &GeneralSubtree<'_>) -> bool
     subtree.minimum != 0 || subtree.maximum.is_some()
 }
 
-/// Returns whether it is an address without a mask, or none.
+/// Returns whether it is an iPAddress that isn't an address with a mask.
 fn is_odd_network(name: &GeneralName<'_>) -> bool
     ensures { IsTrue result ↔ IsOddNetwork (name_of name.now) }
 {
@@ -101,7 +101,7 @@ fn is_odd_network(name: &GeneralName<'_>) -> bool
     }
 }
 
-/// Returns whether it is an address whose second half isn't a mask.
+/// Returns whether it is an iPAddress whose second half isn't a mask.
 fn has_odd_mask(name: &GeneralName<'_>) -> bool
     ensures { IsTrue result ↔ HasOddMask (name_of name.now) }
 {
@@ -111,7 +111,7 @@ fn has_odd_mask(name: &GeneralName<'_>) -> bool
     }
 }
 
-/// Returns whether it is a uniformResourceIdentifier that is the name of neither a host nor a domain.
+/// Returns whether it is a uniformResourceIdentifier that isn't a host name or "." and a domain name.
 fn is_odd_host(name: &GeneralName<'_>) -> bool
     ensures { IsTrue result ↔ IsOddHost (name_of name.now) }
 {
@@ -121,7 +121,7 @@ fn is_odd_host(name: &GeneralName<'_>) -> bool
     }
 }
 
-/// Returns whether it is an rfc822Name that is neither a mailbox nor the name of a host or a domain.
+/// Returns whether it is an rfc822Name that isn't a mailbox, a host name or "." and a domain name.
 fn is_odd_mailbox(name: &GeneralName<'_>) -> bool
     ensures { IsTrue result ↔ IsOddMailbox (name_of name.now) }
 {
@@ -133,7 +133,7 @@ fn is_odd_mailbox(name: &GeneralName<'_>) -> bool
     }
 }
 
-/// Returns whether it is a dNSName that isn't empty, and isn't the name of a host.
+/// Returns whether it is a dNSName that is neither empty nor a host name.
 fn is_odd_domain(name: &GeneralName<'_>) -> bool
     ensures { IsTrue result ↔ IsOddDomain (name_of name.now) }
 {

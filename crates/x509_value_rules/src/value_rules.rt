@@ -1,4 +1,4 @@
-//! Rules of the values of extensions. A value that isn't of its type breaks none.
+//! Rules of extension values. A value of another type breaks none of them.
 ghost use Rattle.std.specs.Prelude.{◌≡◌, ◌≢◌, ◌<◌, ◌<ℤ◌, ◌↔◌, IsTrue, None, length, pos};
 ghost use Rattle.der_base.specs.Octets.{integer_value};
 ghost use Rattle.der_cursor.specs.Formats.{Required};
@@ -16,29 +16,33 @@ use crate::notices::{QualifierRule, has_badly_qualified};
 use crate::points::{PointRule, has_broken_point, has_whole_point};
 use crate::policies::has_any_with_other;
 use crate::subtrees::{SubtreeRule, has_broken_subtree};
-use crl_reader::{Reason, read_reason};
+use der_base::MAX_RECURSION;
 use der_base::integer::is_negative;
+use der_base::rules::Rules;
 use der_base::time::ASN1DateTime;
+use der_elements::check::is_element;
 use der_extensions::{
     AccessDescription, AuthorityKeyIdentifier, InformationAccess, read_authority_key_identifier,
     read_certificate_policies, read_crl_distribution_points, read_general_names,
-    read_information_access, read_name_constraints, read_policy_mappings,
+    read_information_access, read_invalidity_date, read_name_constraints, read_policy_mappings,
 };
-use der_x509::are_indistinct;
+use x509::are_indistinct;
+use x509::crl::{Reason, read_reason};
 use x509_rule_facts::identifier::has_octets;
-use x509_rule_facts::readers::{read_date, read_number};
+use x509_rule_facts::readers::read_number;
 use x509_rule_facts::types::{ValueType, is_of_type};
 
 /// A rule of RFC 5280 about the value of an extension.
 #[derive(Clone, Copy, Debug, PartialEq)]
 pub enum ValueRule {
-    /// It is of this type (4.2, 5.2, 5.3). One that isn't breaks none of the other rules.
+    /// It has this type (4.2, 5.2, 5.3). A value of another type breaks no other rule but `DerValues`.
     OfType(ValueType),
-    /// authorityKeyIdentifier: issuer and serial number are both there, or neither (4.2.1.1, A.2, MUST).
+    /// authorityKeyIdentifier: issuer and serial number are both there, or neither is (4.2.1.1, A.2, MUST).
     IssuerAndSerial,
     /// authorityKeyIdentifier: each name of authorityCertIssuer keeps the rule (4.2.1.1, 4.2.1.6).
     Issuer(NameRule),
-    /// certificatePolicies: no policy comes twice (4.2.1.4, MUST NOT), and there are at most `der_x509::MOST_ITEMS` (B).
+    /// certificatePolicies: no policy comes twice (4.2.1.4, MUST NOT), and there are at most `x509::MOST_ITEMS`
+    /// (B).
     DistinctPolicies,
     /// certificatePolicies: anyPolicy has no qualifiers but CPS pointers and user notices (4.2.1.4, MUST).
     AnyPolicyQualifiers,
@@ -50,18 +54,18 @@ pub enum ValueRule {
     Names(NameRule),
     /// certificateIssuer: one of the names is a directoryName (5.3.3, MUST).
     DirectoryName,
-    /// nameConstraints, policyConstraints, issuingDistributionPoint: it isn't an empty sequence (4.2.1.10, 4.2.1.11,
+    /// nameConstraints, policyConstraints, issuingDistributionPoint: the SEQUENCE isn't empty (4.2.1.10, 4.2.1.11,
     /// 5.2.5, MUST NOT).
     NotEmpty,
     /// nameConstraints: each subtree keeps the rule (4.2.1.10).
     Subtrees(SubtreeRule),
     /// cRLDistributionPoints, freshestCRL: each point keeps the rule (4.2.1.13).
     Points(PointRule),
-    /// cRLDistributionPoints: the lists of one point at least are for all reasons (4.2.1.13, MUST).
+    /// cRLDistributionPoints: at least one point is for all reasons (4.2.1.13, MUST).
     PointForAllReasons,
     /// issuingDistributionPoint: it keeps the rule (5.2.5).
     IssuingPoint(IssuingPointRule),
-    /// authorityInfoAccess of such a list: each method is id-ad-caIssuers (5.2.7, MUST NOT).
+    /// authorityInfoAccess of a CRL: each method is id-ad-caIssuers (5.2.7, MUST NOT).
     CaIssuers,
     /// authorityInfoAccess, subjectInfoAccess: each location keeps the rule of names (4.2.2.1, 4.2.2.2).
     Locations(NameRule),
@@ -71,12 +75,15 @@ pub enum ValueRule {
     NaturalNumber,
     /// invalidityDate: it has no fraction of a second (5.3.2, MUST NOT).
     WholeSeconds,
-    /// reasonCode: it isn't unspecified, since then there should be none (5.3.1, SHOULD).
+    /// reasonCode: it isn't unspecified; then the extension should be absent (5.3.1, SHOULD).
     SpecifiedReason,
+    /// Values of any type in it are DER too, such as those of attributes and otherNames (A.1, X.690 10): one element by
+    /// `der_elements::check`, nested to `MAX_RECURSION`.
+    DerValues,
 }
 
 impl ValueRule {
-    /// The type of which it asks each value, if there is one.
+    /// The type whose values the rule is about, unless `Reading` leaves the rule out.
     pub(crate) fn value_type(self) -> Option<ValueType>
         ensures { result ≡ type_of_rule self }
     {
@@ -101,17 +108,18 @@ impl ValueRule {
             ValueRule::NaturalNumber => Some(ValueType::Number),
             ValueRule::WholeSeconds => Some(ValueType::Date),
             ValueRule::SpecifiedReason => Some(ValueType::Reason),
+            ValueRule::DerValues => None,
         }
     }
 }
 
-/// A SEQUENCE of no octets.
+/// An empty SEQUENCE.
 const EMPTY_SEQUENCE: &[u8] = b"\x30\x00";
 
 /// id-ad-caIssuers: 1.3.6.1.5.5.7.48.2.
 const CA_ISSUERS: &[u8] = b"\x2b\x06\x01\x05\x05\x07\x30\x02";
 
-/// The most octets of a number of a list.
+/// The most octets of a CRL number.
 const LONGEST_NUMBER: usize = 20;
 
 /// Returns whether the value of an extension breaks the rule.
@@ -139,6 +147,7 @@ pub(crate) fn breaks_value(rule: ValueRule, value: &[u8]) -> bool
         ValueRule::NaturalNumber => breaks_natural_number(value),
         ValueRule::WholeSeconds => breaks_whole_seconds(value),
         ValueRule::SpecifiedReason => breaks_specified_reason(value),
+        ValueRule::DerValues => !is_element(value, Rules::Der, MAX_RECURSION),
     }
 }
 
@@ -151,7 +160,7 @@ fn breaks_issuer_and_serial(value: &[u8]) -> bool
     }
 }
 
-/// Returns whether there is an issuer without a serial number, or a serial number without an issuer.
+/// Returns whether only one of issuer and serial number is there.
 pub(crate) fn is_half(authority: &AuthorityKeyIdentifier<'_>) -> bool
     ensures { IsTrue result ↔ IsHalf (authority_of authority.now) }
 {
@@ -182,7 +191,7 @@ pub(crate) fn lacks_issuer(authority: &AuthorityKeyIdentifier<'_>) -> bool
     authority.authority_cert_issuer.is_none()
 }
 
-/// Returns whether the octets are certificate policies, one of which comes twice, or more than `MOST_ITEMS`.
+/// Returns whether the octets are certificate policies with one twice, or more than `MOST_ITEMS`.
 fn breaks_distinct_policies(value: &[u8]) -> bool
     ensures { IsTrue result ↔ BreaksValue ValueRule.DistinctPolicies value.now }
 {
@@ -192,8 +201,8 @@ fn breaks_distinct_policies(value: &[u8]) -> bool
     }
 }
 
-/// Returns whether the octets are certificate policies, and anyPolicy has a qualifier that is neither a CPS pointer nor
-/// a user notice.
+/// Returns whether the octets are certificate policies, and anyPolicy has a qualifier other than CPS pointer and user
+/// notice.
 fn breaks_any_policy_qualifiers(value: &[u8]) -> bool
     ensures { IsTrue result ↔ BreaksValue ValueRule.AnyPolicyQualifiers value.now }
 {
@@ -203,7 +212,7 @@ fn breaks_any_policy_qualifiers(value: &[u8]) -> bool
     }
 }
 
-/// Returns whether the octets are certificate policies, one of which has a qualifier that breaks the rule.
+/// Returns whether the octets are certificate policies with a qualifier that breaks the rule.
 fn breaks_qualifiers(rule: QualifierRule, value: &[u8]) -> bool
     ensures { IsTrue result ↔ BreaksValue (ValueRule.Qualifiers rule) value.now }
 {
@@ -213,7 +222,7 @@ fn breaks_qualifiers(rule: QualifierRule, value: &[u8]) -> bool
     }
 }
 
-/// Returns whether the octets are policy mappings, one of which has anyPolicy.
+/// Returns whether the octets are policy mappings with anyPolicy.
 fn breaks_unmapped_any_policy(value: &[u8]) -> bool
     ensures { IsTrue result ↔ BreaksValue ValueRule.UnmappedAnyPolicy value.now }
 {
@@ -223,7 +232,7 @@ fn breaks_unmapped_any_policy(value: &[u8]) -> bool
     }
 }
 
-/// Returns whether the octets are general names, one of which breaks the rule.
+/// Returns whether the octets are general names, and one breaks the rule.
 fn breaks_names(rule: NameRule, value: &[u8]) -> bool
     ensures { IsTrue result ↔ BreaksValue (ValueRule.Names rule) value.now }
 {
@@ -252,7 +261,7 @@ fn breaks_subtrees(rule: SubtreeRule, value: &[u8]) -> bool
     }
 }
 
-/// Returns whether the octets are distribution points, one of which breaks the rule.
+/// Returns whether the octets are distribution points, and one breaks the rule.
 fn breaks_points(rule: PointRule, value: &[u8]) -> bool
     ensures { IsTrue result ↔ BreaksValue (ValueRule.Points rule) value.now }
 {
@@ -262,7 +271,7 @@ fn breaks_points(rule: PointRule, value: &[u8]) -> bool
     }
 }
 
-/// Returns whether the octets are distribution points, none of which is for all reasons.
+/// Returns whether the octets are distribution points, and none is for all reasons.
 fn is_without_whole_point(value: &[u8]) -> bool
     ensures { IsTrue result ↔ BreaksValue ValueRule.PointForAllReasons value.now }
 {
@@ -327,7 +336,7 @@ fn is_location_broken(rule: NameRule, description: &AccessDescription<'_>) -> bo
     breaks_name(rule, &description.access_location)
 }
 
-/// Returns whether the octets are descriptions of accesses, none of which breaks a rule of each.
+/// Returns whether the octets are access descriptions that break no rule.
 pub(crate) fn are_sound_descriptions(value: &[u8]) -> bool
     ensures { IsTrue result → IsSound ValueType.Descriptions value.now }
 {
@@ -337,7 +346,7 @@ pub(crate) fn are_sound_descriptions(value: &[u8]) -> bool
     }
 }
 
-/// Returns whether one of the locations breaks a rule.
+/// Returns whether one of the locations breaks any rule.
 fn has_bad_location(descriptions: &InformationAccess<'_>) -> bool
     ensures { IsTrue result ↔ Among (Required AccessFormat) IsBadLocation descriptions.now.octets.now }
 {
@@ -388,7 +397,7 @@ fn is_below_zero(number: &[u8]) -> bool
 fn breaks_whole_seconds(value: &[u8]) -> bool
     ensures { IsTrue result ↔ BreaksValue ValueRule.WholeSeconds value.now }
 {
-    match read_date(value) {
+    match read_invalidity_date(value) {
         Ok(date) => has_fraction(date),
         Err(_) => false,
     }

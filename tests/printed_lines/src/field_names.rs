@@ -8,17 +8,19 @@
 use anyhow::{Context, Result};
 use der_base::rules::Rules;
 use der_known::KnownTypes;
-use der_schema::schema::Type;
+use der_schema::schema::{Component, Type};
 use der_schema::{
     KnownType, Name, NamePath, Namer, Schema, field, first_named, first_of, optional, set, string,
     universal,
 };
-use der_walk::Walk;
+use der_elements::Walk;
 use std::env;
 use std::io::Read;
 
 /// A SET, which none of the known types has.
-const SETS: &[KnownType] = &[KnownType { name: "SetOfThree", components: &[field!("" SET_OF_THREE)] }];
+const SETS: &[KnownType] = &[KnownType { name: "SetOfThree", kind: Type::Numbered(0), signs: &[] }];
+
+static SET: Component = field!("" SET_OF_THREE);
 
 const SET_OF_THREE: Type = set![
     field!("flag" universal!(1)),
@@ -30,16 +32,17 @@ const SET_OF_THREE: Type = set![
 pub fn print_input(rt: &HostRuntime) -> Result<()> {
     let has_paths = env::args(rt)?.skip(2).next().is_some();
     let known = KnownTypes::new();
+    let types: [&'static Component; 1] = [&SET];
     let mut input = String::new(rt.alloc());
     rt.stdin().read_to_string(&mut input)?;
     for line in input.lines() {
         let (asked, octets) = line.split_once(';').context("octets")?;
         let (name, offsets) = asked.split_once(' ').unwrap_or((asked, ""));
         let octets = hex::decode(rt.alloc(), octets)?;
-        let set = first_named(SETS, &[], name);
+        let set = first_named(SETS, &types, name);
         let schema = known.type_named(name).or(set).context("a known type")?;
         print_names(rt, &octets, schema, offsets, has_paths)?;
-        let set = first_of(SETS, &[], &octets, Rules::Der);
+        let set = first_of(SETS, &types, &octets, Rules::Der);
         let found = known.type_of(&octets, Rules::Der).or(set);
         println!(rt; "{}", found.map_or("none", |it| it.name))?;
     }

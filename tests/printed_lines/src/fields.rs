@@ -6,11 +6,11 @@
 
 use anyhow::{Context, Result, ensure};
 use der_base::rules::Rules;
-use der_fields::{Named, schema_named, write_fields};
+use text_json::fields::{Named, schema_named, write_fields};
 use der_known::KnownTypes;
 use der_print::{Limit, Style};
 use der_schema::Schema;
-use der_walk::{Element, Walk};
+use der_elements::{Element, Walk};
 use std::io::Read;
 
 /// Values are whole.

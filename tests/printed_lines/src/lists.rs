@@ -5,7 +5,7 @@ mod text;
 
 use anyhow::{Result, ensure};
 use bstr::ByteSlice;
-use crl_reader::read_certificate_list;
+use x509::crl::read_certificate_list;
 use der_input::next_block;
 use std::alloc::Global;
 use std::io::Read;

@@ -1,4 +1,4 @@
-//! The rows of the readers of elements, of views of what they read, of walks, of the check of elements, of the
+//! The rows of lists of elements, of views of them, of walks, of the check of elements, of the
 //! canonical encoding, and of inputs as people have them. The rows stand in `data`.
 //!
 //! A call is followed by its depth, by the capacity of its buffer, or by what its module says.

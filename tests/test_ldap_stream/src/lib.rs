@@ -4,7 +4,7 @@
 use anyhow::{Result, bail};
 use der_base::error::{Err as Refused, Needed};
 use der_cursor::FieldRefusal;
-use ldap_reader::read_message;
+use messages::ldap::read_message;
 use std::alloc::Global;
 use std::io::{Read, Write};
 

@@ -1,6 +1,5 @@
 //! The tests of programs and of what they are made of that need code.
 
 mod cli;
-mod derdump;
 #[cfg(test)]
 mod ldap_stream;

@@ -3,7 +3,6 @@
 
 pub mod calls;
 pub mod fronts;
-pub mod nodes;
 pub mod reader;
 pub mod round_trips;
 pub mod trials;

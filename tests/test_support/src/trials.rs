@@ -1,6 +1,5 @@
 //! What is tried on the octets of each row of a program's files, whatever is answered on them.
 use crate::fronts::expect_stable_fronts;
-use crate::nodes::expect_elements;
 use crate::reader::Reader;
 use crate::round_trips::expect_round_trip;
 use crate::wrong::Wrong;
@@ -19,8 +18,6 @@ enum Trial {
     RoundTrip,
     /// Each front is read, and read again with octets behind it.
     Fronts,
-    /// Elements are read to buffers of any size, beside the object.
-    Nodes,
 }
 
 impl Trial {
@@ -29,13 +26,12 @@ impl Trial {
         match self {
             Trial::RoundTrip => expect_round_trip(alloc, depth, text),
             Trial::Fronts => expect_stable_fronts(alloc, text),
-            Trial::Nodes => expect_elements(alloc, depth, text),
         }
     }
 }
 
 /// What is tried on each row.
-const TRIALS: [Trial; 3] = [Trial::RoundTrip, Trial::Fronts, Trial::Nodes];
+const TRIALS: [Trial; 2] = [Trial::RoundTrip, Trial::Fronts];
 
 /// How many rows were tried, and on how many something doesn't hold.
 #[derive(Clone, Copy, Drop)]

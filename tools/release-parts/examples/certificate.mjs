@@ -4,15 +4,18 @@ import { parseDer } from "../js/index.js";
 
 const [certificate] = parseDer(readFileSync(process.argv[2]));
 const [toBeSigned] = certificate.children;
-const fields = toBeSigned.children.filter((it) => it.class === "universal"); // without version and extensions
-const [serial, signature, issuer, validity, subject] = fields;
+const [first, ...others] = toBeSigned.children;
+const [serial, signature, issuer, validity, subject] = first.type === "[0]" ? others : [first, ...others];
+if (serial.type !== "INTEGER") throw new Error("the serial number is no INTEGER");
 
+// Who made the certificate chose its texts: what isn't printable ASCII is printed by its number.
+const shown = (text) => text.replace(/[^ -~]/gu, (it) => `\\u{${it.codePointAt(0).toString(16)}}`);
 const nameOf = ({ children: sets }) =>
   sets.flatMap((set) => set.children).map(({ children: [type, value] }) => `${type.value}=${value.value}`).join(", ");
 
 console.log(`serial: ${Buffer.from(serial.content).toString("hex")}`);
 console.log(`signature: ${signature.children[0].value}`);
-console.log(`issuer: ${nameOf(issuer)}`);
+console.log(`issuer: ${shown(nameOf(issuer))}`);
 console.log(`not before: ${validity.children[0].value}`);
 console.log(`not after: ${validity.children[1].value}`);
-console.log(`subject: ${nameOf(subject)}`);
+console.log(`subject: ${shown(nameOf(subject))}`);

@@ -1,6 +1,6 @@
 """Reads BER and DER (ITU-T X.690), and writes DER: certificates, SNMP, LDAP, Kerberos.
 
-The work is done by a library that is proved. This package is a way to call it, which is tested.
+A proved library does the work. This package calls it, and is tested.
 
 >>> import dumarewhi
 >>> tree = dumarewhi.parse_der(bytes.fromhex("3006 020105 0101ff"))
@@ -9,9 +9,9 @@ The work is done by a library that is proved. This package is a way to call it, 
 >>> [(child.tag.number, child.offset) for child in tree.root]
 [(2, 2), (1, 5)]
 
-:func:`parse_der` and :func:`parse_ber` return a :class:`Tree` of :class:`Node`. :class:`Reader` reads the fields of a
-type, one after the other. :class:`Writer` writes them. :func:`to_der` writes BER as DER. ``dumarewhi.x509`` has
-certificates and keys, and ``dumarewhi.pem`` the blocks of a text.
+:func:`parse_der` and :func:`parse_ber` return a :class:`Tree` of :class:`Node`. :class:`Reader` reads field after
+field, and :class:`Writer` writes them. :func:`to_der` converts BER to DER. ``dumarewhi.x509`` has certificates and
+keys, and ``dumarewhi.pem`` PEM.
 
 Any thread may read any tree at any time. A :class:`Reader` or :class:`Writer` is for one thread at a time.
 """

@@ -62,8 +62,8 @@ def _encodings(data: bytes) -> Iterator[bytes]:
 
 
 def _certificates(data: bytes) -> Iterator[bytes]:
-    """The octets of the certificate in DER that a file is, or of each one that it has in PEM. DER is tried first, since
-    a text in it may hold PEM."""
+    """The octets of a certificate in DER, or of each one in PEM. DER is tried first, since a text in it may hold
+    PEM."""
     if _is_der(data):
         yield data
         return
@@ -127,7 +127,7 @@ _LINE = 16
 
 
 def _dump(node: Node) -> None:
-    """Prints all octets, those of a header and of a primitive content in lines of their own."""
+    """Prints all octets: each header and each primitive content on its own line."""
     if not node.constructed:
         _print_octets(node, node.offset, bytes(node.octets))
         return

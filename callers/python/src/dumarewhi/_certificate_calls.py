@@ -453,6 +453,7 @@ class ExtensionKind(enum.IntEnum):
     EXTENDED_KEY_USAGE = 37
     FRESHEST_CRL = 46
     INHIBIT_ANY_POLICY = 54
+    NO_REV_AVAIL = 56
     TLS_FEATURES = 256
     OCSP_NO_CHECK = 257
     SIGNED_CERTIFICATE_TIMESTAMPS = 258
@@ -531,6 +532,7 @@ _name_text = _call("dm_name_text", c_size_t, c_void_p, c_size_t, c_void_p, c_siz
 _found_text = _call("dm_found_text", c_size_t, c_void_p, c_void_p, c_size_t, c_void_p, c_size_t)
 _sha256 = _call("dm_sha256", None, c_void_p, c_size_t, c_void_p)
 _has_unknown_critical = _call("dm_has_unknown_critical", c_uint32, c_void_p, c_size_t)
+_rule_text = _call("dm_rule_text", c_size_t, c_uint32, c_void_p, c_size_t)
 
 Octets = Tuple[int, ...]
 """Two numbers, where octets are and how many: what a field of the type dm_octets has."""
@@ -603,6 +605,19 @@ def _text(call: Call, *arguments: Any) -> str:
         if length <= room:
             return text.raw[:length].decode()
         room = length
+
+
+MAX_BROKEN_RULES = 256
+RULE_MUST = 1
+
+broken_rules = _call("dm_broken_rules", c_uint32, c_void_p, c_size_t, c_void_p, c_size_t, c_void_p, c_void_p)
+broken_crl_rules = _call("dm_broken_crl_rules", c_uint32, c_void_p, c_size_t, c_void_p, c_size_t, c_void_p, c_void_p)
+rule_kind = _call("dm_rule_kind", c_uint32, c_uint32)
+
+
+def rule_text(rule: int) -> str:
+    """The text of a rule by its number; of no rule it is empty."""
+    return _text(_rule_text, rule)
 
 
 def has_unknown_critical(extensions: Octets) -> bool:

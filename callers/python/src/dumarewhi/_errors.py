@@ -1,4 +1,4 @@
-"""Why an input isn't read, or a value isn't written."""
+"""Why an input can't be read, or a value can't be written."""
 from __future__ import annotations
 
 from types import TracebackType
@@ -6,7 +6,7 @@ from typing import Optional, Tuple, Type
 
 
 class DerError(ValueError):
-    """An input breaks a rule, or has no value of the type that is asked for.
+    """An input breaks a rule, or has no value of the requested type.
 
     >>> import dumarewhi
     >>> try:
@@ -17,11 +17,9 @@ class DerError(ValueError):
 
     Attributes:
         reason: What is wrong, as a text.
-        offset: Where the innermost element begins that shows it, in octets from the start of the input. Of a
-            :class:`Writer`, how many octets were written before.
-        rule: The number of the rule, one of :class:`Rule`. It is 0 if the library has no number for it, as for octets
-            that follow an element.
-        names: The names of the fields that it is in, the outermost first, as :class:`named` gives them.
+        offset: The offset of the innermost wrong element; for a :class:`Writer` the number of octets written before.
+        rule: The broken rule, one of :class:`Rule`; 0 if it has no number, as for trailing data.
+        names: The names of the fields around it, the outermost first, from :class:`named`.
     """
 
     def __init__(self, reason: str, offset: int, rule: int = 0) -> None:
@@ -48,7 +46,7 @@ class Incomplete(DerError):
     3
 
     Attributes:
-        missing: How many octets are missing, as far as the input shows. To wait for so many is never too long.
+        missing: Number of missing octets, as far as the input shows. It is never too large.
         offset: The length of the input.
     """
 
@@ -59,7 +57,7 @@ class Incomplete(DerError):
 
 
 class named:
-    """Gives a field a name, which an error in the block then has before those that it has.
+    """Adds the name of a field to errors inside the block.
 
     >>> import dumarewhi
     >>> with named("request"), dumarewhi.Reader(bytes.fromhex("3003 020105")) as reader, reader.sequence() as fields:

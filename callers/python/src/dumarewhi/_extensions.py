@@ -1,4 +1,4 @@
-"""Extensions, and what their values are (RFC 5280 4.2, 5.3)."""
+"""Extensions and their values (RFC 5280 4.2, 5.3)."""
 from __future__ import annotations
 
 import datetime
@@ -17,15 +17,15 @@ from ._values import BitString, ObjectIdentifier
 
 @dataclass(frozen=True)
 class BasicConstraints:
-    """Whether the subject is a certification authority (4.2.1.9)."""
+    """BasicConstraints (4.2.1.9): whether the subject is a CA."""
 
     ca: bool
     path_length: Optional[int]
-    """How many certificates of authorities may follow in a path."""
+    """The number of CA certificates that may follow in a path."""
 
 
 class KeyUsage(enum.IntFlag):
-    """What a key is for (4.2.1.3): the bits that have names there, which may be none."""
+    """KeyUsage (4.2.1.3): the named bits, maybe none."""
 
     DIGITAL_SIGNATURE = 1
     CONTENT_COMMITMENT = 2
@@ -40,7 +40,7 @@ class KeyUsage(enum.IntFlag):
 
 @dataclass(frozen=True)
 class AuthorityKeyIdentifier:
-    """Which key signed the certificate (4.2.1.1)."""
+    """AuthorityKeyIdentifier (4.2.1.1): which key signed the certificate."""
 
     key_identifier: Optional[bytes]
     issuer: Optional[Tuple[GeneralName, ...]]
@@ -66,38 +66,38 @@ class Policy:
 
 @dataclass(frozen=True)
 class DistributionPoint:
-    """Where a list of revoked certificates is (4.2.1.13)."""
+    """Where a CRL is (4.2.1.13)."""
 
     full_name: Tuple[GeneralName, ...]
-    """Its names, or none if it has no such field."""
+    """Its names, maybe none."""
     relative_name: Tuple[Attribute, ...]
-    """What follows the name of the issuer, or nothing if it is absent."""
+    """A name relative to the issuer's, maybe empty."""
     reasons: Optional[BitString]
     """A bit for each reason, from keyCompromise (1) to aACompromise (8). ``None`` for all."""
     crl_issuer: Tuple[GeneralName, ...]
-    """Who signs the list, or nobody if it has no such field."""
+    """Who signs the CRL, if it isn't the certificate's issuer."""
 
 
 @dataclass(frozen=True)
 class Subtree:
-    """A name, and those below it (4.2.1.10)."""
+    """A name and those below it (4.2.1.10)."""
 
     base: GeneralName
-    """The name. The value of an address is octets with a mask behind it: 8 of IPv4, 32 of IPv6."""
+    """The name. An address is followed by its mask: 8 octets of IPv4, 32 of IPv6."""
     minimum: int
-    """0 by RFC 5280, which isn't asked."""
+    """RFC 5280 allows only 0, which isn't checked."""
     maximum: Optional[int]
-    """``None`` by RFC 5280, which isn't asked."""
+    """RFC 5280 allows only ``None``, which isn't checked."""
 
 
 @dataclass(frozen=True)
 class NameConstraints:
-    """Which names certificates may have (4.2.1.10)."""
+    """NameConstraints (4.2.1.10)."""
 
     permitted: Tuple[Subtree, ...]
-    """Names that they may have, or none if it has no such field."""
+    """Names that certificates may have, maybe none."""
     excluded: Tuple[Subtree, ...]
-    """Names that they may not have, or none if it has no such field."""
+    """Names that certificates may not have, maybe none."""
 
 
 @dataclass(frozen=True)
@@ -105,13 +105,13 @@ class AccessDescription:
     """Where information is (4.2.2)."""
 
     method: ObjectIdentifier
-    """How it is read."""
+    """The access method."""
     location: GeneralName
 
 
 @dataclass(frozen=True)
 class PolicyMapping:
-    """A policy of the issuer, and the one of the subject that it stands for (4.2.1.5)."""
+    """A policy of the issuer, and the subject's policy that it equals (4.2.1.5)."""
 
     issuer_policy: ObjectIdentifier
     subject_policy: ObjectIdentifier
@@ -119,63 +119,63 @@ class PolicyMapping:
 
 @dataclass(frozen=True)
 class PolicyConstraints:
-    """From where on in a path policies are asked for, or no longer mapped (4.2.1.11)."""
+    """PolicyConstraints (4.2.1.11)."""
 
     require_explicit_policy: Optional[int]
-    """How many certificates may follow before each needs an acceptable policy."""
+    """How many certificates may follow in a path before each needs an acceptable policy."""
     inhibit_policy_mapping: Optional[int]
-    """How many may follow before policies are no longer mapped."""
+    """How many may follow in a path before policies are no longer mapped."""
 
 
 @dataclass(frozen=True)
 class DirectoryAttribute:
-    """What else is said of a subject (4.2.1.8)."""
+    """An attribute of SubjectDirectoryAttributes (4.2.1.8)."""
 
     identifier: ObjectIdentifier
     values: bytes
-    """The encodings of its values, one after the other."""
+    """The encodings of its values."""
 
 
 @dataclass(frozen=True)
 class IssuingDistributionPoint:
-    """Which certificates a list of revoked ones is about (5.2.5)."""
+    """IssuingDistributionPoint (5.2.5): which certificates a CRL is about."""
 
     full_name: Tuple[GeneralName, ...]
-    """Where the list is found, or no names if it has no such field."""
+    """Where the CRL is found, if it says so."""
     relative_name: Tuple[Attribute, ...]
-    """What follows the name of the issuer, or nothing if it is absent."""
+    """A name relative to the issuer's, maybe empty."""
     reasons: Optional[BitString]
-    """A bit for each reason that the list has, from keyCompromise (1) to aACompromise (8). ``None`` for all."""
+    """A bit for each reason, keyCompromise (1) to aACompromise (8). ``None`` for all."""
     only_contains_user_certs: bool
-    """Whether it has only certificates of end entities."""
+    """Whether it lists only certificates of end entities."""
     only_contains_ca_certs: bool
-    """Whether it has only certificates of authorities."""
+    """Whether it lists only certificates of CAs."""
     indirect_crl: bool
-    """Whether it has certificates of other issuers."""
+    """Whether it lists certificates of other issuers."""
     only_contains_attribute_certs: bool
-    """Whether it has only attribute certificates."""
+    """Whether it lists only attribute certificates."""
 
 
 @dataclass(frozen=True)
 class QcStatement:
-    """What is stated of a qualified certificate (RFC 3739 3.2.6)."""
+    """A statement of a qualified certificate (RFC 3739 3.2.6)."""
 
     identifier: ObjectIdentifier
     info: Optional[AnyElement]
-    """What it says."""
+    """Its value."""
 
 
 @dataclass(frozen=True)
 class OrganizationIdentifier:
-    """In which register an organization is (CA/B Forum, EV Guidelines 9.8.2)."""
+    """The register of an organization (CA/B Forum, EV Guidelines 9.8.2)."""
 
     scheme: str
     """The kind of the register, such as VAT: three characters."""
     country: str
-    """Its country, two characters."""
+    """The register's country, two characters."""
     state_or_province: Optional[str]
     reference: str
-    """The number of the organization in it."""
+    """The organization's number in the register."""
 
 
 class RevocationReason(enum.IntEnum):
@@ -227,12 +227,12 @@ class Extension:
     identifier: ObjectIdentifier
     critical: bool
     octets: bytes
-    """The octets of its value: the encoding of a type that the identifier names."""
+    """The octets of its value: an encoding of the identifier's type."""
     _kind: int
 
     @property
     def value(self) -> ExtensionValue:
-        """Its value, by DER.
+        """Its value, in DER.
 
         | extension | value |
         |---|---|
@@ -250,19 +250,19 @@ class Extension:
         | SubjectDirectoryAttributes | a tuple of :class:`DirectoryAttribute` |
         | PolicyConstraints | :class:`PolicyConstraints` |
         | InhibitAnyPolicy | ``int``: how many certificates may follow before anyPolicy no longer counts |
-        | CRLNumber, deltaCRLIndicator, of a list | ``int`` |
-        | IssuingDistributionPoint, of a list | :class:`IssuingDistributionPoint` |
-        | CRLReason, of an entry of a list | :class:`RevocationReason` |
-        | InvalidityDate, of an entry | ``datetime`` in UTC |
+        | CRLNumber, deltaCRLIndicator of a CRL | ``int`` |
+        | IssuingDistributionPoint of a CRL | :class:`IssuingDistributionPoint` |
+        | CRLReason of a CRL entry | :class:`RevocationReason` |
+        | InvalidityDate of a CRL entry | ``datetime`` in UTC |
         | SCT list (RFC 6962 3.3) | a tuple of the octets of each timestamp |
         | TLS feature (RFC 7633) | a tuple of ``int``, such as 5, status_request |
         | qcStatements (RFC 3739 3.2.6) | a tuple of :class:`QcStatement` |
         | cabfOrganizationIdentifier | :class:`OrganizationIdentifier` |
-        | OCSP no-check, the poison of a precertificate | ``None`` |
-        | another, which isn't read | :attr:`octets` |
+        | OCSP no-check, precertificate poison | ``None`` |
+        | any other, which isn't read | :attr:`octets` |
 
         Raises:
-            CertificateError: The octets are no such value. Offsets count from their start.
+            CertificateError: The octets aren't such a value. Offsets count from their start.
             DerError: The month of an InvalidityDate doesn't have its day, or its year is 0.
         """
         read = _VALUES.get(self._kind)
@@ -471,6 +471,7 @@ _VALUES: Dict[int, Callable[[bytes], ExtensionValue]] = {
     ExtensionKind.TLS_FEATURES: read_tls_features,
     ExtensionKind.QC_STATEMENTS: read_qc_statements,
     ExtensionKind.ORGANIZATION_IDENTIFIER: read_organization_identifier,
+    ExtensionKind.NO_REV_AVAIL: read_null,
     ExtensionKind.OCSP_NO_CHECK: read_null,
     ExtensionKind.PRECERTIFICATE_POISON: read_null,
 }

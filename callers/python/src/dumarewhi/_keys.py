@@ -1,4 +1,4 @@
-"""Keys. What is secret of them isn't shown."""
+"""Keys. ``repr`` doesn't show secrets."""
 from __future__ import annotations
 
 from dataclasses import dataclass
@@ -19,21 +19,21 @@ class PrivateKey:
     """A private key (PKCS #8: RFC 5208 5, RFC 5958 2)."""
 
     version: int
-    """1 if there is a public key, else 0: the number that is encoded."""
+    """As encoded: 1 if there is a public key, else 0."""
     algorithm: ObjectIdentifier
-    """What it is a key of."""
+    """The key's algorithm."""
     parameters: Optional[AnyElement]
     """The parameters of the algorithm."""
     private_key: bytes
-    """The key, in the form of its algorithm: of RSA as :class:`RsaPrivateKey` reads it, of elliptic curves (SEC 1) as
-    :class:`EcPrivateKey` does."""
+    """The key as its algorithm encodes it: :class:`RsaPrivateKey` reads RSA, and :class:`EcPrivateKey` elliptic curves
+    (SEC 1)."""
     attributes: Optional[bytes]
     """The content octets of the attributes, which aren't read."""
     public_key: Optional[BitString]
 
     @classmethod
     def from_der(cls: Type[PrivateKey], data: ReadableBuffer) -> PrivateKey:
-        """Reads the one key that the octets are in DER, exactly as its ASN.1 has it.
+        """Reads a key in DER, by its ASN.1, without trailing data.
 
         Args:
             data: Any object with octets. They are copied.
@@ -58,7 +58,7 @@ class PrivateKey:
 
 @dataclass(frozen=True, repr=False)
 class RsaPrivateKey:
-    """A private key of RSA (RFC 8017 A.1.2), as :attr:`PrivateKey.private_key` has it."""
+    """An RSA private key (RFC 8017 A.1.2), from :attr:`PrivateKey.private_key`."""
 
     version: int
     """1 if there are further primes, else 0."""
@@ -75,7 +75,7 @@ class RsaPrivateKey:
 
     @classmethod
     def from_der(cls: Type[RsaPrivateKey], data: ReadableBuffer) -> RsaPrivateKey:
-        """Reads the one key that the octets are in DER, exactly as its ASN.1 has it.
+        """Reads a key in DER, by its ASN.1, without trailing data.
 
         Raises:
             CertificateError: The octets aren't a key.
@@ -105,20 +105,19 @@ class RsaPrivateKey:
 
 @dataclass(frozen=True, repr=False)
 class EcPrivateKey:
-    """A private key of an elliptic curve (SEC 1 C.4, RFC 5915 3), as :attr:`PrivateKey.private_key` or a file of its
-    own has it."""
+    """An EC private key (SEC 1 C.4, RFC 5915 3), from :attr:`PrivateKey.private_key` or a file."""
 
     version: int
     """Always 1."""
     private_key: bytes
-    """The key, a number in as many octets as the order of the curve has."""
+    """The key, a number with as many octets as the curve's order."""
     parameters: Optional[AnyElement]
-    """The curve, mostly by its identifier (RFC 5480 2.1.1)."""
+    """The curve, mostly an identifier (RFC 5480 2.1.1)."""
     public_key: Optional[BitString]
 
     @classmethod
     def from_der(cls: Type[EcPrivateKey], data: ReadableBuffer) -> EcPrivateKey:
-        """Reads the one key that the octets are in DER, exactly as its ASN.1 has it.
+        """Reads a key in DER, by its ASN.1, without trailing data.
 
         Raises:
             CertificateError: The octets aren't a key.
@@ -138,17 +137,17 @@ class EcPrivateKey:
 
 @dataclass(frozen=True)
 class EncryptedPrivateKey:
-    """A private key that is encrypted (RFC 5958 3). It isn't decrypted here."""
+    """An encrypted private key (RFC 5958 3). It isn't decrypted."""
 
     algorithm: ObjectIdentifier
-    """How it is encrypted."""
+    """The algorithm of the encryption."""
     parameters: Optional[AnyElement]
     """The parameters of the algorithm."""
     encrypted_data: bytes
 
     @classmethod
     def from_der(cls: Type[EncryptedPrivateKey], data: ReadableBuffer) -> EncryptedPrivateKey:
-        """Reads the one key that the octets are in DER, exactly as its ASN.1 has it.
+        """Reads a key in DER, by its ASN.1, without trailing data.
 
         Raises:
             CertificateError: The octets aren't an encrypted key.
@@ -164,18 +163,18 @@ class EncryptedPrivateKey:
 
 @dataclass(frozen=True)
 class SubjectPublicKeyInfo:
-    """A public key on its own (RFC 5280 4.1.2.7), as files PUBLIC KEY have it."""
+    """A public key (RFC 5280 4.1.2.7), such as in a PEM block PUBLIC KEY."""
 
     algorithm: ObjectIdentifier
-    """What it is a key of."""
+    """The key's algorithm."""
     parameters: Optional[AnyElement]
     """The parameters of the algorithm."""
     public_key: BitString
-    """The key, in the form of its algorithm: of RSA as :class:`RsaPublicKey` reads its octets."""
+    """The key as its algorithm encodes it: :class:`RsaPublicKey` reads the octets of RSA."""
 
     @classmethod
     def from_der(cls: Type[SubjectPublicKeyInfo], data: ReadableBuffer) -> SubjectPublicKeyInfo:
-        """Reads the one key that the octets are in DER, exactly as its ASN.1 has it.
+        """Reads a key in DER, by its ASN.1, without trailing data.
 
         Raises:
             CertificateError: The octets aren't a key.
@@ -191,14 +190,14 @@ class SubjectPublicKeyInfo:
 
 @dataclass(frozen=True)
 class RsaPublicKey:
-    """A public key of RSA (RFC 8017 A.1.1)."""
+    """An RSA public key (RFC 8017 A.1.1)."""
 
     modulus: int
     public_exponent: int
 
     @classmethod
     def from_der(cls: Type[RsaPublicKey], data: ReadableBuffer) -> RsaPublicKey:
-        """Reads the one key that the octets are in DER, exactly as its ASN.1 has it.
+        """Reads a key in DER, by its ASN.1, without trailing data.
 
         Raises:
             CertificateError: The octets aren't a key.

@@ -1,7 +1,7 @@
 """The shared library: its structs and calls, as ``dumarewhi.h`` declares them.
 
-Nothing outside of this module calls the library. The calls neither allocate nor keep a pointer, so what they are given
-has to live for the call alone.
+Only this module calls the library. Calls neither allocate nor keep a pointer, so arguments need to live only during
+the call.
 """
 from __future__ import annotations
 

@@ -30,7 +30,7 @@ class Attribute:
 
     @property
     def text(self) -> Optional[str]:
-        """The value, if it is a character string of a type that :meth:`Node.as_str` has."""
+        """The value, if it is a character string of a type of :meth:`Node.as_str`."""
         number, value = self.tag.number, self.value
         codec = _CODECS.get(number) if self.tag.tag_class == _UNIVERSAL else None
         if codec is None or self.constructed:
@@ -44,23 +44,23 @@ class Attribute:
 
 
 class Name:
-    """The name of an issuer or a subject (4.1.2.4). As a text it is that of RFC 4514, the last part first, where a
-    character outside of ASCII is its octets in UTF-8, such as ``\\C3\\A9``.
+    """The name of an issuer or a subject (4.1.2.4). ``str`` is the text of RFC 4514, the last relative name first.
+    Characters outside of ASCII are escaped UTF-8, such as ``\\C3\\A9``.
 
-    Two of them are equal if their octets are. RFC 5280 7.1 also takes names as equal that differ in case or spaces.
+    Names compare by octets. RFC 5280 7.1 also treats names as equal that differ in case or spaces.
     """
 
     __slots__ = ("octets",)
 
     octets: bytes
-    """The encodings of its parts, one after the other."""
+    """The encodings of its relative names."""
 
     def __init__(self, octets: bytes) -> None:
         self.octets = octets
 
     @property
     def relative_names(self) -> Tuple[Tuple[Attribute, ...], ...]:
-        """Its parts, the first ones first: each is a set of attributes, and mostly of one."""
+        """Its relative names in order, mostly of one attribute each."""
         octets = self.octets
         begin = _library.address_of(octets)
         names = Steps(_calls.next_relative_name, OctetsStruct)
@@ -69,7 +69,7 @@ class Name:
 
     @property
     def attributes(self) -> Tuple[Attribute, ...]:
-        """The attributes of all its parts, in order."""
+        """The attributes of all relative names, in order."""
         return tuple(attribute for part in self.relative_names for attribute in part)
 
     def get(self, identifier: Union[ObjectIdentifier, str]) -> Optional[str]:
@@ -115,7 +115,7 @@ def _attributes(steps: Steps, name: Octets, octets: bytes, begin: int) -> Tuple[
 
 
 class GeneralNameKind(enum.IntEnum):
-    """The kind of a name. The numbers are those of the tags."""
+    """The kind of a name, by its tag number."""
 
     OTHER_NAME = 0
     RFC822_NAME = 1

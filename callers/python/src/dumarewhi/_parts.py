@@ -1,4 +1,4 @@
-"""What certificates, lists, requests and keys have in common: how they are read, and the types of their fields."""
+"""Shared by certificates, CRLs, requests and keys: how they are read, and the types of their fields."""
 from __future__ import annotations
 
 import datetime
@@ -29,7 +29,7 @@ from ._values import BitString, ObjectIdentifier
 
 
 class CertificateError(DerError):
-    """An input isn't a certificate, a list, a request or a key, or an extension has no value.
+    """An input isn't a certificate, a CRL, a request or a key, or an extension's value is wrong.
 
     >>> from dumarewhi.x509 import Certificate
     >>> try:
@@ -46,11 +46,11 @@ class CertificateError(DerError):
     Attributes:
         reason: What is wrong and where, as a text with the field.
         field: The first field that is wrong.
-        offset: Where the element begins that shows it, in octets from the start of what was read.
-        rule: The number of the rule, one of :class:`Rule`, or 0 if the input is cut short.
+        offset: The offset of the wrong element in what was read.
+        rule: The broken rule, one of :class:`Rule`, or 0 if the input is cut short.
         incomplete: Whether more octets may complete the input.
-        list_end: Where the element ends that this one is in, or ``None``.
-        needed: How many octets the element needs, as far as the input shows, or ``None``.
+        list_end: The end of the element around it, or ``None``.
+        needed: Number of octets that the element needs, as far as the input shows, or ``None``.
     """
 
     def __init__(self, fault: FaultStruct, reason: str) -> None:
@@ -83,7 +83,7 @@ class PublicKey:
 
     algorithm: Algorithm
     bits: BitString
-    """The key, in the form of its algorithm."""
+    """The key as its algorithm encodes it."""
 
 
 @dataclass(frozen=True)

@@ -28,9 +28,9 @@ _IA5_STRING = key_of(Tag.IA5_STRING)
 
 
 class Reader:
-    """Reads the fields of a type, one after the other.
+    """Reads the fields of an ASN.1 type, one after another.
 
-    Each call reads the next element, with all that is inside it. After an error the reader is where it was. Leaving a
+    Each call reads the next element, with all that is inside it. After an error the position is unchanged. Leaving a
     ``with`` block calls :meth:`end`, so an element that nothing reads is an error:
 
     >>> # SEQUENCE { version [0] EXPLICIT INTEGER DEFAULT 0, name UTF8String, critical BOOLEAN DEFAULT FALSE }
@@ -42,12 +42,12 @@ class Reader:
     >>> version, name, critical
     (2, 'hi', False)
 
-    A tag that is given as a number is context-specific, as ``[0]``.
+    A number as a tag is context-specific, as ``[0]``.
 
     Args:
-        data: Any object with octets, as ``bytes`` or ``mmap``. They aren't copied: the reader keeps the object.
+        data: Any object with octets, such as ``bytes`` or ``mmap``. The reader keeps it and doesn't copy it.
         rules: ``"der"`` or ``"ber"``.
-        max_depth: How many elements may be one inside another, at most ``MAX_DEPTH``.
+        max_depth: The largest depth of elements, at most ``MAX_DEPTH``.
     """
 
     __slots__ = ("_nodes", "_next", "_outer", "_last")
@@ -80,7 +80,7 @@ class Reader:
 
     @property
     def offset(self) -> int:
-        """Where the next element begins, in octets from the start of the outermost input."""
+        """The offset of the next element in the outermost input."""
         if self._last is not None:
             return self._last.end
         return 0 if self._outer is None else self._outer.content_offset
@@ -127,22 +127,22 @@ class Reader:
         return self._take(self._must())
 
     def __iter__(self) -> Iterator[Node]:
-        """Reads all elements that are left."""
+        """Reads all remaining elements."""
         while not self.at_end:
             yield self.node()
 
     def sequence(self) -> Reader:
-        """Reads a SEQUENCE. What is returned reads its elements."""
+        """Reads a SEQUENCE. Returns a reader of its elements."""
         return self._open(_SEQUENCE)
 
     def set(self) -> Reader:
-        """Reads a SET. What is returned reads its elements, in the order that is written."""
+        """Reads a SET. Returns a reader of its elements, in their order."""
         return self._open(_SET)
 
     def tagged(self, tag: AnyTag) -> Reader:
-        """Reads a constructed element with this tag. What is returned reads its elements.
+        """Reads a constructed element with this tag. Returns a reader of its elements.
 
-        So it reads an EXPLICIT tag, and an IMPLICIT one of a SEQUENCE or SET.
+        It reads an EXPLICIT tag, or a SEQUENCE or SET under an IMPLICIT one.
 
         >>> with Reader(bytes.fromhex("6106 020105 020107")).tagged(Tag.application(1)) as fields:
         ...     fields.integer(), fields.integer()
@@ -151,7 +151,7 @@ class Reader:
         return self._open(key_of(tag))
 
     def explicit(self, tag: AnyTag, read: Callable[[Reader], T]) -> T:
-        """Reads the one value in an EXPLICIT tag, as ``read`` reads it.
+        """Reads the value inside an EXPLICIT tag with ``read``.
 
         >>> Reader(bytes.fromhex("a003 020105")).explicit(0, Reader.integer)
         5
@@ -163,8 +163,8 @@ class Reader:
         return value
 
     def implicit(self, tag: AnyTag, universal: Tag) -> Node:
-        """Reads an element with this tag as one of a universal type, whose tag it replaces. Its content is checked by
-        the rules of that type, in a copy.
+        """Reads an element with this IMPLICIT tag as one of a universal type, and checks a copy of its content as that
+        type.
 
         >>> # dNSName [2] IMPLICIT IA5String
         >>> Reader(b"\\x82\\x03a.b").implicit(2, Tag.IA5_STRING).as_str()
@@ -184,7 +184,7 @@ class Reader:
     def optional(self, tag: AnyTag, read: Callable[[Reader], T], default: D) -> Union[T, D]: ...
 
     def optional(self, tag: AnyTag, read: Callable[[Reader], T], default: object = None) -> object:
-        """Reads with ``read`` if the next element has this tag. If not, it returns the default.
+        """Reads with ``read`` if the next element has this tag, or returns the default.
 
         >>> reader = Reader(bytes.fromhex("020105"))
         >>> reader.optional(Tag.BOOLEAN, Reader.boolean, False), reader.integer()
@@ -200,7 +200,7 @@ class Reader:
     def optional_explicit(self, tag: AnyTag, read: Callable[[Reader], T], default: D) -> Union[T, D]: ...
 
     def optional_explicit(self, tag: AnyTag, read: Callable[[Reader], T], default: object = None) -> object:
-        """Reads as :meth:`explicit` if the next element has this tag. If not, it returns the default."""
+        """Reads as :meth:`explicit` if the next element has this tag, or returns the default."""
         return self.optional(tag, lambda reader: reader.explicit(tag, read), default)
 
     # Values
@@ -246,7 +246,7 @@ class Reader:
         return self._value(Node.as_str, _IA5_STRING)
 
     def string(self) -> str:
-        """Reads a character string of any type that :meth:`Node.as_str` has."""
+        """Reads a character string of any type of :meth:`Node.as_str`."""
         return self._value(Node.as_str)
 
     def time(self) -> datetime.datetime:

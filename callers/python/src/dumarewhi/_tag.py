@@ -21,7 +21,7 @@ class TagClass(enum.IntEnum):
 
 @dataclass(frozen=True, order=True)
 class Tag:
-    """A tag: its class and its number. Whether an element is constructed is no part of it.
+    """A tag: class and number. The constructed bit isn't part of it.
 
     >>> Tag.INTEGER == Tag(TagClass.UNIVERSAL, 2)
     True
@@ -68,17 +68,17 @@ class Tag:
 
     @staticmethod
     def application(number: int) -> Tag:
-        """A tag of the class application, as ``[APPLICATION 3]``."""
+        """A tag of the class application, such as ``[APPLICATION 3]``."""
         return Tag(TagClass.APPLICATION, number)
 
     @staticmethod
     def context(number: int) -> Tag:
-        """A tag of the class context-specific, as ``[0]``."""
+        """A tag of the class context-specific, such as ``[0]``."""
         return Tag(TagClass.CONTEXT, number)
 
     @staticmethod
     def private(number: int) -> Tag:
-        """A tag of the class private, as ``[PRIVATE 1]``."""
+        """A tag of the class private, such as ``[PRIVATE 1]``."""
         return Tag(TagClass.PRIVATE, number)
 
     def __str__(self) -> str:

@@ -1,4 +1,4 @@
-"""Elements, and the calls that read them."""
+"""Elements and the calls that read them."""
 from __future__ import annotations
 
 import ctypes
@@ -54,26 +54,26 @@ _CODECS: Dict[int, str] = {
 
 
 def parse_der(data: ReadableBuffer, *, max_depth: int = DEFAULT_DEPTH, allow_trailing: bool = False) -> Tree:
-    """Reads the one element that the octets are in DER.
+    """Reads octets that are one element in DER.
 
     >>> tree = parse_der(bytes.fromhex("3006 020105 0101ff"))
     >>> [child.value for child in tree.root]
     [5, True]
 
     Args:
-        data: Any object with octets, as ``bytes`` or ``mmap``. They aren't copied: the tree keeps the object.
-        max_depth: How many elements may be one inside another, at most ``MAX_DEPTH``.
-        allow_trailing: Whether octets may follow the element. :attr:`Tree.end` is where they begin.
+        data: Any object with octets, such as ``bytes`` or ``mmap``. The tree keeps it and doesn't copy it.
+        max_depth: The largest depth of elements, at most ``MAX_DEPTH``.
+        allow_trailing: Whether octets may follow the element, at :attr:`Tree.end`.
 
     Raises:
         Incomplete: The octets are cut short.
-        DerError: They are no element of DER, or octets follow it.
+        DerError: They aren't an element in DER, or octets follow it.
     """
     return _parse("der", data, max_depth, allow_trailing)
 
 
 def parse_ber(data: ReadableBuffer, *, max_depth: int = DEFAULT_DEPTH, allow_trailing: bool = False) -> Tree:
-    """Reads as :func:`parse_der`, in BER: of definite or indefinite length.
+    """Reads by BER, as :func:`parse_der` does by DER.
 
     >>> parse_ber(bytes.fromhex("3080 020105 0000")).root.value
     [5]
@@ -82,36 +82,36 @@ def parse_ber(data: ReadableBuffer, *, max_depth: int = DEFAULT_DEPTH, allow_tra
 
 
 def check_der(data: ReadableBuffer, *, max_depth: int = DEFAULT_DEPTH) -> int:
-    """Checks that the octets are one element in DER. Returns how many elements are in it, itself among them.
+    """Checks that octets are one element in DER. Returns the number of elements: itself and those inside it.
 
-    It keeps nothing. It checks what ``dm_check_der`` of ``dumarewhi.h`` checks.
+    It checks what ``dm_check_der`` of ``dumarewhi.h`` checks.
 
     >>> check_der(bytes.fromhex("3006 020105 0101ff"))
     3
 
     Raises:
         Incomplete: The octets are cut short.
-        DerError: They are no element of DER, or octets follow it.
+        DerError: They aren't an element in DER, or octets follow it.
     """
     return _check("der", data, max_depth)
 
 
 def check_ber(data: ReadableBuffer, *, max_depth: int = DEFAULT_DEPTH) -> int:
-    """Checks as :func:`check_der`, by BER."""
+    """Checks by BER, as :func:`check_der` does by DER."""
     return _check("ber", data, max_depth)
 
 
 def to_der(data: ReadableBuffer) -> bytes:
     """Elements in BER as DER writes them, all of them: with lengths in the fewest octets and strings in one part.
 
-    The types aren't known, so the order of a SET OF and default values stay as they are.
+    The order of a SET OF and default values depend on the ASN.1 and stay as they are.
 
     >>> to_der(bytes.fromhex("3080 2480 040161 040162 0000 0000")).hex(" ", -4)
     '30040402 6162'
 
     Raises:
         Incomplete: The octets are cut short.
-        DerError: They aren't elements of BER, or one has a value that DER doesn't have.
+        DerError: They aren't elements in BER, or one has no form in DER.
     """
     return Source(data).to_der()
 
@@ -143,8 +143,7 @@ def _expect_end(end: int, length: int) -> None:
 class Tree:
     """An element and those inside it, as :func:`parse_der` returns it.
 
-    It is a list of offsets, with 40 octets for each element, over the caller's octets. Its nodes are made when they
-    are asked for.
+    It takes 40 octets for each element, over the caller's octets. Nodes are made when they are asked for.
     """
 
     __slots__ = ("_source", "_rules", "_max_depth", "_begin", "_depth", "_words", "_length", "_inner")
@@ -190,7 +189,7 @@ class Tree:
 
     @property
     def end(self) -> int:
-        """Where the octets begin that follow it."""
+        """The offset after it."""
         return self._begin + self._length
 
     def __iter__(self) -> Iterator[Node]:
@@ -210,15 +209,15 @@ class Node:
     >>> node[0].as_int(), node[0].offset
     (5, 2)
 
-    The content of a constructed element of any class is elements (X.690 8.1.4), which are listed with it. Those of a
-    node that :meth:`Reader.implicit` returned are listed when they are asked for. If its octets were changed meanwhile,
-    :attr:`children`, and all that uses it, may raise an error.
+    The content of a constructed element of any class is elements (X.690 8.1.4), which are listed with it. A node of
+    :meth:`Reader.implicit` lists them when they are asked for: if its octets have changed, :attr:`children` may raise
+    an error.
     """
 
     __slots__ = ("_tree", "_at", "depth")
 
     depth: int
-    """How many elements it is inside."""
+    """The number of elements around it."""
 
     def __init__(self, tree: Tree, at: int, depth: int) -> None:
         self._tree = tree
@@ -256,27 +255,27 @@ class Node:
 
     @property
     def offset(self) -> int:
-        """Where it begins, in octets from the start of the input."""
+        """Its offset in the input."""
         return self._tree._begin + self._tree._words[self._at]
 
     @property
     def header_length(self) -> int:
-        """How many identifier and length octets it has."""
+        """The number of its identifier and length octets."""
         return self._tree._words[self._at + 1] - self._tree._words[self._at]
 
     @property
     def content_offset(self) -> int:
-        """Where its content octets begin."""
+        """The offset of its content octets."""
         return self._tree._begin + self._tree._words[self._at + 1]
 
     @property
     def content_end(self) -> int:
-        """Where its content octets end."""
+        """The end of its content octets."""
         return self._tree._begin + self._tree._words[self._at + 2]
 
     @property
     def end(self) -> int:
-        """Where it ends: behind the end marker that follows a content of indefinite length (X.690 8.1.5)."""
+        """Its end, after the end-of-contents octets of an indefinite length (X.690 8.1.5)."""
         return self.content_end + (0 if self.definite else 2)
 
     @property
@@ -286,12 +285,12 @@ class Node:
 
     @property
     def content(self) -> memoryview:
-        """The content octets, without an end marker."""
+        """The content octets, without end-of-contents octets."""
         return self._tree._source.view[self.content_offset : self.content_end]
 
     @property
     def octets(self) -> memoryview:
-        """All octets: the header, the content, and an end marker."""
+        """All octets: header, content and end-of-contents octets."""
         return self._tree._source.view[self.offset : self.end]
 
     # What is inside
@@ -309,8 +308,7 @@ class Node:
         """The elements directly inside it, in order.
 
         Raises:
-            DerError: Its content isn't elements any more, since its octets were changed. It was read by
-                :meth:`Reader.implicit`.
+            DerError: The octets of a node of :meth:`Reader.implicit` have changed, and aren't elements any more.
         """
         tree, at = self._tree, self._at
         words = tree._words
@@ -367,8 +365,8 @@ class Node:
                     yield from child.walk()
 
     def parse_content(self) -> Tree:
-        """Reads the one element that the content octets are, by the same rules: that of an explicit tag, or of an
-        OCTET STRING that holds an encoding. Its offsets are those of the outermost input.
+        """Reads content octets that are one element, by the same rules, such as an encoding inside an OCTET STRING.
+        Offsets count in the outermost input.
 
         >>> parse_der(bytes.fromhex("0403 020105")).root.parse_content().root.offset
         2
@@ -379,7 +377,7 @@ class Node:
         return inner
 
     def reader(self) -> Reader:
-        """Reads the elements directly inside it, one after the other.
+        """A reader of the elements directly inside it.
 
         Raises:
             DerError: It isn't constructed.
@@ -392,11 +390,11 @@ class Node:
 
     @property
     def value(self) -> Value:
-        """The value, as the type of Python for its tag.
+        """The value as a Python type, by its tag.
 
-        It is a ``bool``, ``int`` (of an INTEGER or ENUMERATED), :class:`BitString`, ``bytes`` (of an OCTET STRING),
-        ``None`` (of a NULL), :class:`ObjectIdentifier`, ``str`` or ``datetime``. Of another constructed element it is
-        the list of the values inside it, and of another primitive one the content octets.
+        It is a ``bool``, ``int`` (INTEGER, ENUMERATED), :class:`BitString`, ``bytes`` (OCTET STRING), ``None`` (NULL),
+        :class:`ObjectIdentifier`, ``str`` or ``datetime``. Other constructed elements have the list of the values
+        inside them, and other primitive ones the content octets.
 
         >>> parse_der(bytes.fromhex("3008 0603550403 0c0161")).root.value
         [ObjectIdentifier('2.5.4.3'), 'a']
@@ -429,11 +427,11 @@ class Node:
         return _integer(self._primitive(key))
 
     def as_bytes(self) -> bytes:
-        """An OCTET STRING (X.690 8.7). In BER, the parts of a constructed one are joined."""
+        """An OCTET STRING (X.690 8.7). By BER a constructed one is joined."""
         return bytes(self._string(_OCTET_STRING))
 
     def as_bit_string(self) -> BitString:
-        """A BIT STRING (X.690 8.6). In BER, the parts of a constructed one are joined."""
+        """A BIT STRING (X.690 8.6). By BER a constructed one is joined."""
         content = bytes(self._string(_BIT_STRING))
         try:
             return BitString(content[1:], content[0])
@@ -453,10 +451,10 @@ class Node:
             raise self._error(Rule.WRONG_VALUE) from None
 
     def as_str(self) -> str:
-        """A character string of any type of X.690 8.23. In BER, the parts of a constructed one are joined.
+        """A character string of any type (X.690 8.23). By BER a constructed one is joined.
 
-        TeletexString, VideotexString, GraphicString, GeneralString and ObjectDescriptor are taken as UTF-8. Where they
-        aren't, an error is raised, and :attr:`content` has the octets.
+        TeletexString, VideotexString, GraphicString, GeneralString and ObjectDescriptor are read as UTF-8. Other octets
+        are an error; :attr:`content` has them.
         """
         key = self._key
         codec = _CODECS.get(key)
@@ -471,8 +469,8 @@ class Node:
     def as_datetime(self) -> datetime.datetime:
         """A UTCTime or a GeneralizedTime (X.690 8.25).
 
-        It has the zone that is written, or none. The year of a UTCTime is 1950 to 2049 (RFC 5280 4.1.2.5.1). Digits
-        below a microsecond are dropped.
+        It has the encoded zone, or none. A UTCTime has a year of 1950 to 2049 (RFC 5280 4.1.2.5.1). Digits below a
+        microsecond are dropped.
         """
         key = self._key
         if key != _UTC_TIME:

@@ -40,8 +40,7 @@ class Writer:
     >>> w.to_bytes().hex(" ")
     '30 0e 02 01 05 06 03 55 04 03 a0 04 0c 02 68 69'
 
-    If the block raises an error, the element is taken back with all that is inside it. A tag that is given as a number
-    is context-specific, as ``[0]``.
+    If the block raises an error, its element is removed. A number as a tag is context-specific, as ``[0]``.
     """
 
     __slots__ = ("_octets", "_first", "_state", "_at")
@@ -55,11 +54,11 @@ class Writer:
 
     @property
     def offset(self) -> int:
-        """How many octets are written."""
+        """The number of octets written."""
         return self._state.count
 
     def to_bytes(self) -> bytes:
-        """What is written. Writing may go on.
+        """The octets written so far. Writing may go on.
 
         Raises:
             ValueError: An element is open.
@@ -79,7 +78,7 @@ class Writer:
         return self._open(Tag.SEQUENCE)
 
     def set(self) -> Block:
-        """Opens a SET, whose elements stay in the order that they are written in. :meth:`set_of` sorts."""
+        """Opens a SET. Its elements keep their order; :meth:`set_of` sorts."""
         return self._open(Tag.SET)
 
     def set_of(self, elements: Iterable[bytes]) -> None:
@@ -94,11 +93,11 @@ class Writer:
             self.elements(b"".join(sorted(elements)))
 
     def tagged(self, tag: AnyTag) -> Block:
-        """Opens a constructed element with this tag: an EXPLICIT tag, or an IMPLICIT one of a SEQUENCE or SET."""
+        """Opens a constructed element with this tag: an EXPLICIT tag, or a SEQUENCE or SET under an IMPLICIT one."""
         return self._open(tag)
 
     def octet_string_of(self) -> Block:
-        """Opens an OCTET STRING whose octets are elements.
+        """Opens an OCTET STRING that contains elements.
 
         >>> w = Writer()
         >>> with w.octet_string_of():
@@ -109,8 +108,8 @@ class Writer:
         return self._open(Tag.OCTET_STRING, constructed=False)
 
     def implicit(self, tag: AnyTag) -> Writer:
-        """Gives the next element, which has to be primitive, this tag in place of that of its type. Returns the writer.
-        After an error the tag is still for the next element.
+        """The next element must be primitive, and gets this IMPLICIT tag instead of its type's. Returns the writer.
+        After an error the tag is still pending.
 
         >>> w = Writer()
         >>> w.implicit(2).ia5_string("a.b")  # dNSName [2] IMPLICIT IA5String
@@ -122,7 +121,7 @@ class Writer:
         return self
 
     def elements(self, octets: ReadableBuffer) -> None:
-        """Writes elements as they are: octets of DER that were written before. They aren't checked."""
+        """Writes elements that are encoded already. They aren't checked."""
         self._expect_no_tag()
         copy = bytes(octets)
         self._reserve(len(copy))
@@ -136,7 +135,7 @@ class Writer:
         _library.put_bool(self._at, bool(value))
 
     def integer(self, value: int) -> None:
-        """Writes an INTEGER, of any size."""
+        """Writes an INTEGER of any size."""
         if -(1 << 63) <= value < 1 << 63:
             self._reserve(8)
             _library.put_i64(self._at, value)
@@ -147,7 +146,7 @@ class Writer:
         self._check(_library.put_integer(self._at, content, len(content)))
 
     def enumerated(self, value: int) -> None:
-        """Writes an ENUMERATED, of any size."""
+        """Writes an ENUMERATED of any size."""
         if 0 <= value < 1 << 64:
             self._reserve(9)
             _library.put_enumerated(self._at, value)
@@ -160,7 +159,7 @@ class Writer:
         _library.put_null(self._at)
 
     def oid(self, value: Union[ObjectIdentifier, str, Iterable[int]]) -> None:
-        """Writes an OBJECT IDENTIFIER, which may be given as a text or as arcs."""
+        """Writes an OBJECT IDENTIFIER; a text or arcs will do."""
         identifier = value if isinstance(value, ObjectIdentifier) else ObjectIdentifier(value)
         content = identifier.content
         if not content:
@@ -175,7 +174,7 @@ class Writer:
         _library.put_octets(self._at, content, len(content))
 
     def bit_string(self, value: Union[BitString, bytes], unused_bits: int = 0) -> None:
-        """Writes a BIT STRING, which may be given as octets. Its unused bits are written as 0 (X.690 11.2.1)."""
+        """Writes a BIT STRING; octets will do. Unused bits are written as 0 (X.690 11.2.1)."""
         bits = value if isinstance(value, BitString) else BitString(value, unused_bits)
         content = bytes(bits)
         self._reserve(1 + len(content))
@@ -194,7 +193,7 @@ class Writer:
         self.string(Tag.IA5_STRING, value)
 
     def string(self, tag: Tag, value: str) -> None:
-        """Writes a character string of the type with this tag, any that :meth:`Node.as_str` has.
+        """Writes a character string of any type of :meth:`Node.as_str`, by its tag.
 
         >>> w = Writer()
         >>> w.string(Tag.NUMERIC_STRING, "1 2")
@@ -202,7 +201,7 @@ class Writer:
         b'\\x12\\x031 2'
 
         Raises:
-            DerError: A character isn't in the set of the type, or the tag is of no such type.
+            DerError: A character isn't in the type's set, or the tag isn't of a string type.
         """
         if tag in _WIDE:
             codec, last = _WIDE[tag]
@@ -215,7 +214,7 @@ class Writer:
         self._check(_library.put_text(self._at, tag.number, content, len(content)))
 
     def time(self, value: datetime.datetime) -> None:
-        """Writes a UTCTime of the years 1950 to 2049 without a fraction, or else a GeneralizedTime (RFC 5280 4.1.2.5).
+        """Writes a UTCTime for the years 1950 to 2049 without a fraction, else a GeneralizedTime (RFC 5280 4.1.2.5).
 
         >>> w = Writer()
         >>> w.time(datetime.datetime(2049, 12, 31, tzinfo=datetime.timezone.utc))
@@ -226,7 +225,7 @@ class Writer:
         self._time(Tag.UTC_TIME if is_short else Tag.GENERALIZED_TIME, value)
 
     def utc_time(self, value: datetime.datetime) -> None:
-        """Writes a UTCTime. An error unless the year is 1950 to 2049, and there is no fraction of a second."""
+        """Writes a UTCTime. An error unless the year is 1950 to 2049, without a fraction of a second."""
         self._time(Tag.UTC_TIME, value)
 
     def generalized_time(self, value: datetime.datetime) -> None:
@@ -302,7 +301,7 @@ class Writer:
 
 
 class Block:
-    """An element of a :class:`Writer` that is open until the end of a ``with`` block."""
+    """An element of a :class:`Writer`, open until the end of a ``with`` block."""
 
     __slots__ = ("_writer", "_mark", "_count", "_innermost")
 

@@ -1,4 +1,4 @@
-"""Blocks of PEM (RFC 7468), by calls of the library that are proved.
+"""Blocks of PEM (RFC 7468).
 
 >>> text = "A NULL:\\n-----BEGIN NULL-----\\nBQA=\\n-----END NULL-----\\nand more."
 >>> for block in blocks(text):
@@ -25,28 +25,28 @@ __all__ = ["Block", "Blocks", "blocks"]
 
 @dataclass(frozen=True)
 class Block:
-    """A block of a text. What it encodes, which may be a private key, isn't shown."""
+    """A block of a text. ``repr`` doesn't show its octets, which may be a private key."""
 
     label: str
     """Its label, such as ``CERTIFICATE``. Octets that aren't UTF-8 are ``\\ufffd``."""
     offset: int
-    """Where it begins, in octets from the start of the text."""
+    """Its offset in the text."""
     octets: bytes = field(repr=False)
-    """What it encodes."""
+    """Its decoded octets."""
 
 
 def blocks(text: Union[str, ReadableBuffer]) -> Blocks:
-    """The blocks of a text, and any text around them. A block begins at the start of a line, or after white space,
-    quotes or a mark ``>``. What they are isn't checked.
+    """Reads the blocks of a text and skips the text around them. A block begins at the start of a line, or after white
+    space, quotes or ``>``. Labels and contents aren't checked.
 
     Args:
-        text: A text, whose octets are those of UTF-8, or any object with octets, which aren't copied.
+        text: A text, taken as UTF-8, or any object with octets, which aren't copied.
     """
     return Blocks(text)
 
 
 class Blocks:
-    """The blocks of a text, one after the other, as :func:`blocks` has them. It is for one thread at a time.
+    """An iterator over the blocks of a text, from :func:`blocks`. It is for one thread at a time.
 
     A block that can't be decoded is an error. The next one is read after that:
 
@@ -84,8 +84,8 @@ class Blocks:
         """The next block.
 
         Raises:
-            DerError: There is one that is encrypted (RFC 1421 4.6.1.1), or whose base64 (RFC 4648 4) isn't right: the
-                next call goes on after it. Or it has no end, or another label there: then it is the last one.
+            DerError: A block is encrypted (RFC 1421 4.6.1.1) or has wrong base64 (RFC 4648 4): the next call goes on
+                after it. Or it has no end or another label there: then it is the last one.
         """
         rest, length = self._rest, self._source.length
         address, before = rest[0], rest[1]

@@ -1,13 +1,11 @@
-"""Certificates, lists of revoked ones (RFC 5280), requests (RFC 2986) and keys (RFC 5958, RFC 5915, RFC 8017), by calls
-of the library that are proved.
+"""Certificates and CRLs (RFC 5280), requests (RFC 2986) and keys (RFC 5958, RFC 5915, RFC 8017).
 
     certificate = Certificate.from_der(octets)
     print(certificate.subject, certificate.not_after)
     for extension in certificate.extensions:
         print(extension.identifier, extension.value)
 
-Numbers are ``int``, octets ``bytes``, texts ``str``, times ``datetime`` in UTC. What a certificate is for isn't decided
-here: no signature is verified, and no path.
+Numbers are ``int``, octets ``bytes``, texts ``str``, times ``datetime`` in UTC. Signatures and paths aren't verified.
 """
 from __future__ import annotations
 
@@ -50,6 +48,7 @@ from ._keys import (
 )
 from ._names import Attribute, GeneralName, GeneralNameKind, Name
 from ._parts import Algorithm, AnyElement, CertificateError, Moment, PublicKey
+from ._rules import BrokenRule, broken
 from ._values import BitString, ObjectIdentifier
 
 if TYPE_CHECKING:
@@ -62,6 +61,7 @@ __all__ = [
     "Attribute",
     "AuthorityKeyIdentifier",
     "BasicConstraints",
+    "BrokenRule",
     "Certificate",
     "CertificateError",
     "CertificateList",
@@ -109,7 +109,7 @@ class Certificate:
     """1, 2 or 3."""
     serial_number: int
     signature: Algorithm
-    """The algorithm of the signature, as it is signed with the rest."""
+    """The algorithm of the signature, from the signed part."""
     issuer: Name
     subject: Name
     public_key: PublicKey
@@ -117,8 +117,8 @@ class Certificate:
     subject_unique_id: Optional[BitString]
     extensions: Tuple[Extension, ...]
     has_unknown_critical: bool
-    """Whether an extension is critical and isn't one that :attr:`Extension.value` reads. Who knows no others has to
-    refuse the certificate (4.2)."""
+    """Whether there is a critical extension that :attr:`Extension.value` doesn't read. If you know no others, reject
+    the certificate (4.2)."""
     signature_algorithm: Algorithm
     signature_value: BitString
     """The signature. It isn't verified."""
@@ -126,13 +126,12 @@ class Certificate:
 
     @classmethod
     def from_der(cls: Type[Certificate], data: ReadableBuffer, *, strict: bool = False) -> Certificate:
-        """Reads the one certificate that the octets are in DER, exactly as the ASN.1 of RFC 5280 has it. Of parameters
-        and attributes' values, which may be of any type, the header is read.
+        """Reads a certificate in DER, by the ASN.1 of RFC 5280, without trailing data. The content of values of any
+        type (parameters, attributes) isn't checked.
 
         Args:
             data: Any object with octets. They are copied.
-            strict: Whether the rules of the text of RFC 5280 are kept too: those of :class:`Rule` with numbers from 128
-                to 139.
+            strict: Also check rules of RFC 5280's text: those of :class:`Rule` with numbers 128 to 139.
 
         Raises:
             CertificateError: The octets aren't a certificate, or break a rule.
@@ -160,16 +159,16 @@ class Certificate:
 
     @property
     def not_before(self) -> datetime.datetime:
-        """The first moment that it is valid at.
+        """Start of validity.
 
         Raises:
-            DerError: Its month doesn't have its day, or its year is 0. The library takes both.
+            DerError: Its month doesn't have its day, or its year is 0. The library accepts both.
         """
         return _parts.datetime_of(self._validity[0])
 
     @property
     def not_after(self) -> datetime.datetime:
-        """The last moment that it is valid at. An error as of :attr:`not_before`."""
+        """End of validity, inclusive. Errors as for :attr:`not_before`."""
         return _parts.datetime_of(self._validity[1])
 
     @property
@@ -181,6 +180,11 @@ class Certificate:
         """The first extension of a type, such as ``"2.5.29.17"``, subjectAltName."""
         return _extensions.find(self.extensions, identifier)
 
+    def broken_rules(self) -> Tuple[BrokenRule, ...]:
+        """All rules of RFC 5280's text, and of RFCs beside it, that the certificate breaks: first those with MUST, then
+        those with SHOULD. ``strict`` of :meth:`from_der` knows fewer rules."""
+        return broken(_calls.broken_rules, self.octets)
+
     def __repr__(self) -> str:
         return f"<Certificate of {self.subject}, number {self.serial_number:x}>"
 
@@ -190,19 +194,19 @@ _REASON_CODE = ObjectIdentifier("2.5.29.21")
 
 @dataclass(frozen=True)
 class RevokedCertificate:
-    """A certificate that is revoked (5.1.2.6)."""
+    """A revoked certificate (5.1.2.6)."""
 
     serial_number: int
     extensions: Tuple[Extension, ...]
     """The extensions of the entry (5.3), such as its reason."""
     has_unknown_critical: bool
-    """Whether an extension is critical and isn't one that :attr:`Extension.value` reads. Who knows no others has to
-    refuse the list (5.3)."""
+    """Whether there is a critical extension that :attr:`Extension.value` doesn't read. If you know no others, reject
+    the CRL (5.3)."""
     _date: Moment
 
     @property
     def date(self) -> datetime.datetime:
-        """When it was revoked. An error as of :attr:`Certificate.not_before`."""
+        """When it was revoked. Errors as for :attr:`Certificate.not_before`."""
         return _parts.datetime_of(self._date)
 
     @property
@@ -222,7 +226,7 @@ class RevokedCertificate:
 
 @dataclass(frozen=True)
 class CertificateList:
-    """A list of revoked certificates (5.1)."""
+    """A CRL (5.1)."""
 
     octets: bytes
     """All octets."""
@@ -231,14 +235,14 @@ class CertificateList:
     version: int
     """1 or 2."""
     signature: Algorithm
-    """The algorithm of the signature, as it is signed with the rest."""
+    """The algorithm of the signature, from the signed part."""
     issuer: Name
     revoked_certificates: Optional[Tuple[RevokedCertificate, ...]]
-    """``None`` if the field is absent, as it is if there are none (5.1.2.6)."""
+    """``None`` if the field is absent: then there are none (5.1.2.6)."""
     extensions: Tuple[Extension, ...]
     has_unknown_critical: bool
-    """Whether an extension is critical and isn't one that :attr:`Extension.value` reads. Who knows no others has to
-    refuse the list (5.2)."""
+    """Whether there is a critical extension that :attr:`Extension.value` doesn't read. If you know no others, reject
+    the CRL (5.2)."""
     signature_algorithm: Algorithm
     signature_value: BitString
     """The signature. It isn't verified."""
@@ -247,10 +251,10 @@ class CertificateList:
 
     @classmethod
     def from_der(cls: Type[CertificateList], data: ReadableBuffer) -> CertificateList:
-        """Reads the one list that the octets are in DER, exactly as the ASN.1 of RFC 5280 has it.
+        """Reads a CRL in DER, by the ASN.1 of RFC 5280, without trailing data.
 
         Raises:
-            CertificateError: The octets aren't a list.
+            CertificateError: The octets aren't a CRL.
         """
         octets = bytes(data)
         found, part = _parts.read(_calls.read_certificate_list, _calls.CertificateListStruct, octets)
@@ -271,12 +275,12 @@ class CertificateList:
 
     @property
     def this_update(self) -> datetime.datetime:
-        """When it was made. An error as of :attr:`Certificate.not_before`."""
+        """When it was issued. Errors as for :attr:`Certificate.not_before`."""
         return _parts.datetime_of(self._this_update)
 
     @property
     def next_update(self) -> Optional[datetime.datetime]:
-        """When the next one is made at the latest. An error as of :attr:`Certificate.not_before`."""
+        """When the next one will be issued at the latest. Errors as for :attr:`Certificate.not_before`."""
         return None if self._next_update is None else _parts.datetime_of(self._next_update)
 
     def extension(self, identifier: Union[ObjectIdentifier, str]) -> Optional[Extension]:
@@ -284,8 +288,12 @@ class CertificateList:
         return _extensions.find(self.extensions, identifier)
 
     def find(self, serial_number: int) -> Optional[RevokedCertificate]:
-        """The entry of the certificate with this number, if it is revoked."""
+        """The entry of the certificate with this serial number, if it is revoked."""
         return next((it for it in self.revoked_certificates or () if it.serial_number == serial_number), None)
+
+    def broken_rules(self) -> Tuple[BrokenRule, ...]:
+        """All rules of RFC 5280's text that the CRL breaks: first those with MUST, then those with SHOULD."""
+        return broken(_calls.broken_crl_rules, self.octets)
 
     def __repr__(self) -> str:
         return f"<CertificateList of {self.issuer}, {len(self.revoked_certificates or ())} revoked>"
@@ -297,7 +305,7 @@ class RequestAttribute:
 
     identifier: ObjectIdentifier
     values: bytes
-    """The encodings of its values, one after the other."""
+    """The encodings of its values."""
 
 
 _EXTENSION_REQUEST = ObjectIdentifier("1.2.840.113549.1.9.14")
@@ -305,7 +313,7 @@ _EXTENSION_REQUEST = ObjectIdentifier("1.2.840.113549.1.9.14")
 
 @dataclass(frozen=True)
 class CertificationRequest:
-    """A request for a certificate (RFC 2986 4)."""
+    """A certification request (RFC 2986 4)."""
 
     octets: bytes
     """All octets."""
@@ -320,7 +328,7 @@ class CertificationRequest:
 
     @classmethod
     def from_der(cls: Type[CertificationRequest], data: ReadableBuffer) -> CertificationRequest:
-        """Reads the one request that the octets are in DER, exactly as the ASN.1 of RFC 2986 has it.
+        """Reads a request in DER, by the ASN.1 of RFC 2986, without trailing data.
 
         Raises:
             CertificateError: The octets aren't a request.
@@ -339,7 +347,7 @@ class CertificationRequest:
 
     @property
     def extensions(self) -> Tuple[Extension, ...]:
-        """The extensions that the attribute extensionRequest (RFC 2985 5.4.2) asks for, or none if it is absent.
+        """The extensions in the attribute extensionRequest (RFC 2985 5.4.2), if any.
 
         Raises:
             CertificateError: The values are no extensions. Offsets count from their start.

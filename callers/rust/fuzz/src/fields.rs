@@ -186,7 +186,7 @@ pub fn contents(input: &[u8], sink: &mut Sink) {
             .map(|octets| assert_eq!(Time::from_der(&octets), Ok(time)))
             .ask(sink);
     }
-    for octet in input.iter().take(8) {
+    for octet in input.iter().take(2) {
         let tag = tag_of(*octet);
         let _ = dumarewhi::to_vec(|w| {
             w.set_of(|w| w.implicit(tag).string(Tag::IA5_STRING, &text))?;

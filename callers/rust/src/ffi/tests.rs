@@ -115,6 +115,8 @@ fn own_rows() -> Vec<Row> {
         ("DM_NO_ROOM", NO_ROOM as usize),
         ("DM_NOT_CLOSED", NOT_CLOSED as usize),
         ("DM_MAX_DEPTH", MAX_DEPTH),
+        ("DM_MAX_BROKEN_RULES", MAX_BROKEN_RULES),
+        ("DM_RULE_MUST", RULE_MUST as usize),
         ("DM_LOCAL", ZONE_LOCAL.into()),
         ("DM_UTC", ZONE_UTC.into()),
         ("DM_OFFSET", ZONE_OFFSET.into()),

@@ -101,7 +101,7 @@ impl<'b> Fields<'b> {
         }
     }
 
-    /// How many octets there are, room or not.
+    /// The number of octets so far, whether they fit or not.
     pub(crate) fn count(&self) -> usize {
         self.state.count
     }
@@ -112,7 +112,7 @@ impl<'b> Fields<'b> {
         Some((class as u8, self.state.number))
     }
 
-    /// The status, and how many octets there are or are needed.
+    /// The status, and the number of octets that were written or are needed.
     pub(crate) fn finish(&self) -> (u32, usize) {
         let mut length = 0;
         // SAFETY: as in the module above.

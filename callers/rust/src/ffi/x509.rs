@@ -105,6 +105,58 @@ reads! {
 extern "C" {
     fn dm_read_null_extension(i: *const u8, n: usize, fault: *mut Fault) -> u32;
     fn dm_has_unknown_critical(i: *const u8, n: usize) -> u32;
+    fn dm_broken_rules(
+        i: *const u8,
+        n: usize,
+        to: *mut u32,
+        room: usize,
+        all: *mut usize,
+        fault: *mut Fault,
+    ) -> u32;
+    fn dm_broken_crl_rules(
+        i: *const u8,
+        n: usize,
+        to: *mut u32,
+        room: usize,
+        all: *mut usize,
+        fault: *mut Fault,
+    ) -> u32;
+    fn dm_rule_text(rule: u32, text: *mut u8, room: usize) -> usize;
+    fn dm_rule_kind(rule: u32) -> u32;
+}
+
+pub(crate) const MAX_BROKEN_RULES: usize = 256;
+pub(crate) const RULE_MUST: u32 = 1;
+
+/// Writes the numbers of the rules that a certificate or a CRL breaks to a slice, and returns how many there are.
+pub(crate) fn broken_rules(of_list: bool, input: &[u8], rules: &mut [u32]) -> Result<usize> {
+    let call = if of_list {
+        dm_broken_crl_rules
+    } else {
+        dm_broken_rules
+    };
+    // SAFETY: as in the module above.
+    value_or_fault(|all, fault| unsafe {
+        call(
+            input.as_ptr(),
+            input.len(),
+            rules.as_mut_ptr(),
+            rules.len(),
+            all,
+            fault,
+        )
+    })
+    .map_err(|fault| Error::of_input(fault, input))
+}
+
+pub(crate) fn rule_text(rule: u32, text: &mut [u8]) -> usize {
+    // SAFETY: as in the module above.
+    unsafe { dm_rule_text(rule, text.as_mut_ptr(), text.len()) }
+}
+
+pub(crate) fn rule_kind(rule: u32) -> u32 {
+    // SAFETY: as in the module above.
+    unsafe { dm_rule_kind(rule) }
 }
 
 pub(crate) fn read_null_extension(input: &[u8]) -> Result<()> {

@@ -1,4 +1,4 @@
-//! Object identifiers with octets of their own.
+//! Owned object identifiers.
 use super::{first_subidentifier, next_subidentifier, octet, octet_count, ObjectIdentifier};
 use crate::error::Reason;
 use alloc::vec::Vec;
@@ -6,7 +6,7 @@ use core::cmp::Ordering;
 use core::fmt;
 use core::str::FromStr;
 
-/// An [`ObjectIdentifier`] with octets of its own.
+/// An owned [`ObjectIdentifier`].
 ///
 /// ```
 /// use dumarewhi::{oid, ObjectIdentifierBuf};
@@ -20,7 +20,7 @@ use core::str::FromStr;
 pub struct ObjectIdentifierBuf(Vec<u8>);
 
 impl ObjectIdentifierBuf {
-    /// The identifier with these arcs. An error if there are fewer than two, or if the first two can't be (X.690
+    /// An identifier from its arcs. An error if there are fewer than two, or if the first two aren't allowed (X.690
     /// 8.19.4).
     pub fn from_arcs(arcs: &[u128]) -> Result<ObjectIdentifierBuf, Reason> {
         if arcs.len() < 2 {
@@ -41,13 +41,13 @@ impl ObjectIdentifierBuf {
         &self.0
     }
 
-    /// The identifier that borrows these octets.
+    /// The borrowed identifier.
     pub fn as_oid(&self) -> ObjectIdentifier<'_> {
         ObjectIdentifier(&self.0)
     }
 }
 
-/// Arcs with points, without leading zeros, each below 2^128. What is returned displays as the text.
+/// Arcs with points, without leading zeros, each below 2^128. The result displays as the text.
 impl FromStr for ObjectIdentifierBuf {
     type Err = Reason;
 

@@ -1,4 +1,4 @@
-//! Extensions, and what their values are.
+//! Extensions and their values.
 use super::{
     AccessDescriptions, DirectoryAttributes, DistributionPoints, Error, IssuingDistributionPoint, Name,
     NameConstraints, OrganizationIdentifier, Policies, PolicyConstraints, PolicyMappings, QcStatements,
@@ -8,7 +8,7 @@ use crate::ffi::{self, Octets};
 use crate::{Integer, ObjectIdentifier, Time};
 
 list! {
-    /// The extensions of a certificate (RFC 5280 4.1.2.9), of a list of revoked certificates, or of an entry of one.
+    /// The extensions of a certificate (RFC 5280 4.1.2.9), a CRL or a CRL entry.
     Extensions, ExtensionsIter of Extension<'a> => next_extension
 }
 
@@ -18,8 +18,8 @@ impl<'a> Extensions<'a> {
         self.iter().find(|extension| extension.identifier() == identifier)
     }
 
-    /// Whether one of them is critical and is another than those that [`Value`] has. Who knows no others has to refuse
-    /// the certificate, the list of revoked certificates or its entry (RFC 5280 4.2, 5.2, 5.3).
+    /// Whether a critical one is [`Value::Other`]. If you know no other extensions, reject the certificate, CRL or
+    /// entry (RFC 5280 4.2, 5.2, 5.3).
     pub fn has_unknown_critical(self) -> bool {
         ffi::has_unknown_critical(self.as_bytes())
     }
@@ -31,13 +31,13 @@ parts! {
     /// Its type.
     identifier: Octets<'a> as ObjectIdentifier<'a>,
     value: Octets<'a>,
-    /// Whether who doesn't know it has to reject the certificate.
+    /// Whether whoever doesn't know it must reject the certificate.
     critical: u32 => is_critical,
     kind: u32,
 }
 
 impl<'a> Extension<'a> {
-    /// The octets of its value: the encoding of a type that the identifier names.
+    /// The octets of its value: an encoding of the identifier's type.
     pub fn octets(&self) -> &'a [u8] {
         self.0.value.get()
     }
@@ -51,7 +51,7 @@ macro_rules! values {
         @null $($(#[$null_doc:meta])* $null:ident = $null_kind:literal;)*
     ) => {
         impl<'a> Extension<'a> {
-            /// Its value, by DER. Offsets of an error count from the start of [`octets`](Extension::octets).
+            /// Its value, in DER. Offsets of errors count from the start of [`octets`](Extension::octets).
             pub fn value(&self) -> Result<Value<'a>, Error> {
                 let octets = self.octets();
                 match self.0.kind {
@@ -113,17 +113,17 @@ values! {
     PolicyConstraints(PolicyConstraints) = 36 by PolicyConstraints::from_der;
     /// 4.2.1.14: how many certificates may follow in a path before anyPolicy no longer counts.
     InhibitAnyPolicy(u32) = 54 by ffi::read_inhibit_any_policy;
-    /// 5.2.3: the number of a list of revoked certificates, which isn't negative.
+    /// 5.2.3: the number of a CRL, which isn't negative.
     CrlNumber(Integer<'a>) = 20 by ffi::read_crl_number;
-    /// 5.2.4: the number of the list that this one changes.
+    /// 5.2.4: the number of the CRL that this one changes.
     DeltaCrlIndicator(Integer<'a>) = 27 by ffi::read_crl_number;
     /// 5.2.5
     IssuingDistributionPoint(IssuingDistributionPoint<'a>) = 28 by IssuingDistributionPoint::from_der;
-    /// 5.3.1, of an entry of a list of revoked certificates.
+    /// 5.3.1, of a CRL entry.
     ReasonCode(RevocationReason) = 21 by RevocationReason::from_der;
-    /// 5.3.2, of an entry: since when the key is known to be invalid.
+    /// 5.3.2, of a CRL entry: when the key became invalid.
     InvalidityDate(Time) = 24 by ffi::read_invalidity_date;
-    /// 5.3.3, of an entry: who issued the certificates from it on.
+    /// 5.3.3, of a CRL entry: the issuer of the certificates from it on.
     CertificateIssuer(GeneralNames<'a>) = 29 by GeneralNames::from_der;
     /// RFC 6962 3.3
     SignedCertificateTimestamps(Timestamps<'a>) = 258 by Timestamps::from_der;
@@ -134,18 +134,20 @@ values! {
     /// CA/B Forum, EV Guidelines 9.8.2
     OrganizationIdentifier(OrganizationIdentifier<'a>) = 260 by OrganizationIdentifier::from_der;
     @null
-    /// RFC 6962 3.1: it isn't to be accepted as a certificate.
+    /// RFC 6962 3.1: reject it as a certificate.
     PrecertificatePoison = 259;
-    /// RFC 6960 4.2.2.2.1: its status isn't asked for.
+    /// RFC 6960 4.2.2.2.1: don't ask for its status.
     OcspNoCheck = 257;
+    /// RFC 9608 2: there is no information about revocation.
+    NoRevAvail = 56;
 }
 
-/// Whether the subject is a certification authority (RFC 5280 4.2.1.9).
+/// BasicConstraints (RFC 5280 4.2.1.9).
 #[derive(Clone, Copy, Debug, PartialEq, Eq, Hash)]
 pub struct BasicConstraints {
-    /// Whether it is.
+    /// Whether the subject is a CA.
     pub ca: bool,
-    /// How many certificates of authorities may follow in a path.
+    /// The number of CA certificates that may follow in a path.
     pub path_length: Option<u32>,
 }
 
@@ -168,7 +170,7 @@ impl BasicConstraints {
     }
 }
 
-/// What a key is for (RFC 5280 4.2.1.3).
+/// KeyUsage (RFC 5280 4.2.1.3).
 #[derive(Clone, Copy, Debug, PartialEq, Eq, Hash)]
 pub struct KeyUsage(u32);
 
@@ -180,7 +182,7 @@ macro_rules! usages {
                 self.has($bit)
             })*
 
-            /// The names of the bits that it has, as RFC 5280 has them.
+            /// The names of its bits, as in RFC 5280.
             pub fn names(self) -> impl Iterator<Item = &'static str> {
                 let names = [$(($bit, $name)),*];
                 names.into_iter().filter(move |(bit, _)| self.has(*bit)).map(|(_, name)| name)
@@ -204,7 +206,7 @@ impl KeyUsage {
         ffi::read_key_usage(octets).map(KeyUsage)
     }
 
-    /// The bits, where bit 0 of RFC 5280 is the lowest one.
+    /// The bits; bit 0 of RFC 5280 is the lowest.
     pub fn bits(self) -> u32 {
         self.0
     }
@@ -227,18 +229,18 @@ usages! {
 }
 
 list! {
-    /// The purposes of a key (RFC 5280 4.2.1.12), one at least: their identifiers.
+    /// ExtendedKeyUsage (RFC 5280 4.2.1.12): the identifiers of at least one purpose.
     KeyPurposes, KeyPurposesIter of ObjectIdentifier<'a> => next_key_purpose, read_extended_key_usage
 }
 
-/// Which key signed the certificate (RFC 5280 4.2.1.1).
+/// AuthorityKeyIdentifier (RFC 5280 4.2.1.1): which key signed the certificate.
 #[derive(Clone, Copy, Debug, PartialEq, Eq, Hash)]
 pub struct AuthorityKeyIdentifier<'a> {
     /// The key's identifier.
     pub key_identifier: Option<&'a [u8]>,
-    /// The names of who issued the certificate that has the key.
+    /// The issuer of the certificate that has the key.
     pub issuer: Option<GeneralNames<'a>>,
-    /// That certificate's number.
+    /// That certificate's serial number.
     pub serial_number: Option<Integer<'a>>,
 }
 
@@ -256,7 +258,7 @@ impl<'a> AuthorityKeyIdentifier<'a> {
 }
 
 list! {
-    /// Names of a subject or an issuer (RFC 5280 4.2.1.6), one at least.
+    /// SubjectAltName, IssuerAltName and the like (RFC 5280 4.2.1.6): at least one name.
     ///
     /// ```
     /// use dumarewhi::x509::{GeneralName, GeneralNames};
@@ -268,7 +270,7 @@ list! {
     GeneralNames, GeneralNamesIter of GeneralName<'a> => next_general_name, read_general_names
 }
 
-/// A name (RFC 5280 4.2.1.6).
+/// A GeneralName (RFC 5280 4.2.1.6).
 #[derive(Clone, Copy, Debug, PartialEq, Eq, Hash)]
 #[non_exhaustive]
 pub enum GeneralName<'a> {
@@ -281,17 +283,17 @@ pub enum GeneralName<'a> {
     },
     /// A mail address.
     Rfc822Name(&'a str),
-    /// A name of DNS.
+    /// A DNS name.
     DnsName(&'a str),
     /// Content octets that aren't read.
     X400Address(&'a [u8]),
-    /// A name as that of a subject.
+    /// A name like a subject's.
     DirectoryName(Name<'a>),
     /// Content octets that aren't read.
     EdiPartyName(&'a [u8]),
     /// A URI.
     Uri(&'a str),
-    /// Four octets of an address of IPv4, or sixteen of IPv6. There may be another number.
+    /// An IP address: 4 octets of IPv4, 16 of IPv6. The length isn't checked.
     IpAddress(&'a [u8]),
     /// An identifier.
     RegisteredId(ObjectIdentifier<'a>),
@@ -318,7 +320,7 @@ impl<'a> From<ffi::GeneralNameFields<'a>> for GeneralName<'a> {
 }
 
 impl GeneralName<'_> {
-    /// The address, if it is one of four or sixteen octets.
+    /// The address, if it has 4 or 16 octets.
     #[cfg(feature = "std")]
     pub fn ip_addr(&self) -> Option<std::net::IpAddr> {
         match self {

@@ -1,9 +1,8 @@
-//! The fields of certificates and the like, as errors have them.
+//! The fields that errors name.
 
 numbered! {
-    /// A field of a certificate (RFC 5280 4.1), of a list of revoked certificates (5.1), of a request (RFC 2986 4), of
-    /// a private key (RFC 5958 2, RFC 8017 A.1.2, RFC 5915 3, RFC 5958 3), or of a public one (RFC 5280 4.1.2.7, RFC
-    /// 8017 A.1.1).
+    /// A field of a certificate (RFC 5280 4.1), a CRL (5.1), a request (RFC 2986 4), a private key (RFC 5958 2, 3, RFC
+    /// 8017 A.1.2, RFC 5915 3) or a public key (RFC 5280 4.1.2.7, RFC 8017 A.1.1).
     #[derive(Clone, Copy, Debug, PartialEq, Eq, PartialOrd, Ord, Hash)]
     #[non_exhaustive]
     Field or None:
@@ -37,15 +36,15 @@ numbered! {
     SignatureAlgorithm = 13,
     /// signatureValue.
     SignatureValue = 14,
-    /// The outermost SEQUENCE of a list of revoked certificates.
+    /// The outermost SEQUENCE of a CRL.
     List = 32,
     /// tbsCertList.
     TbsList = 33,
-    /// version of a list.
+    /// version of a CRL.
     ListVersion = 34,
-    /// signature of a list.
+    /// signature of a CRL.
     ListSignature = 35,
-    /// issuer of a list.
+    /// issuer of a CRL.
     ListIssuer = 36,
     /// thisUpdate.
     ThisUpdate = 37,
@@ -55,9 +54,9 @@ numbered! {
     RevokedCertificates = 39,
     /// crlExtensions.
     ListExtensions = 40,
-    /// signatureAlgorithm of a list.
+    /// signatureAlgorithm of a CRL.
     ListSignatureAlgorithm = 41,
-    /// signatureValue of a list.
+    /// signatureValue of a CRL.
     ListSignatureValue = 42,
     /// The outermost SEQUENCE of a request.
     Request = 64,
@@ -87,9 +86,9 @@ numbered! {
     KeyAttributes = 100,
     /// publicKey of a private key.
     KeyPublicKey = 101,
-    /// The outermost SEQUENCE of a private key of RSA.
+    /// The outermost SEQUENCE of an RSA private key.
     RsaKey = 112,
-    /// version of a private key of RSA.
+    /// version of an RSA private key.
     RsaVersion = 113,
     /// modulus.
     RsaModulus = 114,
@@ -109,15 +108,15 @@ numbered! {
     RsaCoefficient = 121,
     /// otherPrimeInfos.
     RsaOtherPrimes = 122,
-    /// The outermost SEQUENCE of a private key of a curve.
+    /// The outermost SEQUENCE of an EC private key.
     EcKey = 128,
-    /// version of a private key of a curve.
+    /// version of an EC private key.
     EcVersion = 129,
-    /// privateKey of one of a curve.
+    /// privateKey of an EC private key.
     EcOctets = 130,
     /// parameters.
     EcParameters = 131,
-    /// publicKey of a private key of a curve.
+    /// publicKey of an EC private key.
     EcPublicKey = 132,
     /// The outermost SEQUENCE of an encrypted private key.
     EncryptedKey = 144,
@@ -131,7 +130,7 @@ numbered! {
     PublicAlgorithm = 161,
     /// subjectPublicKey.
     PublicBits = 162,
-    /// The outermost SEQUENCE of a public key of RSA.
+    /// The outermost SEQUENCE of an RSA public key.
     PublicRsaKey = 176,
     /// modulus of a public key.
     PublicRsaModulus = 177,

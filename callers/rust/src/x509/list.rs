@@ -1,27 +1,27 @@
-//! Lists of revoked certificates.
-use super::{Algorithm, AlgorithmFields, Extensions, Name};
+//! CRLs.
+use super::{rule, Algorithm, AlgorithmFields, BrokenRule, Extensions, Name};
 use crate::ffi::{BitsFields, MomentFields, Octets};
 use crate::{BitString, Integer, Time};
 
 parts! {
-    /// A list of revoked certificates (RFC 5280 5.1).
+    /// A CRL (RFC 5280 5.1).
     CertificateList: CertificateListFields as dm_certificate_list by read_certificate_list;
     /// The encoding of tbsCertList: the octets that are signed.
     tbs: Octets<'a> as &'a [u8],
-    /// The algorithm of the signature, as it is signed with the rest.
+    /// The algorithm of the signature, from the signed part.
     signature: AlgorithmFields<'a> as Algorithm<'a>,
     /// Who signed it.
     issuer: Octets<'a> as Name<'a>,
     revoked: Octets<'a>,
-    /// The extensions. There are none if it has no such field.
+    /// The extensions, if any.
     extensions: Octets<'a> as Extensions<'a>,
     /// The algorithm of the signature.
     signature_algorithm: AlgorithmFields<'a> as Algorithm<'a>,
     /// The signature. It isn't verified.
     signature_value: BitsFields<'a> as BitString<'a>,
-    /// When it was made.
+    /// When it was issued.
     this_update: MomentFields as Time,
-    /// When the next one is made at the latest.
+    /// When the next one will be issued at the latest.
     next_update: MomentFields as Option<Time>,
     /// The version, 1 or 2.
     version: u32 as u32,
@@ -29,12 +29,17 @@ parts! {
 }
 
 impl<'a> CertificateList<'a> {
-    /// The revoked certificates. `None` if the field is absent, as it is if there are none (5.1.2.6).
+    /// The revoked certificates. `None` if the field is absent: then there are none (5.1.2.6).
     pub fn revoked_certificates(&self) -> Option<RevokedCertificates<'a>> {
         (self.0.has_revoked != 0).then(|| self.0.revoked.into())
     }
 
-    /// The entry of the certificate with this number, if it is revoked.
+    /// All rules of RFC 5280's text that the CRL breaks: first those with MUST, then those with SHOULD.
+    pub fn broken_rules(&self) -> impl Iterator<Item = BrokenRule> {
+        rule::broken_rules(true, self.as_bytes())
+    }
+
+    /// The entry of the certificate with this serial number, if it is revoked.
     pub fn find(&self, serial_number: Integer<'_>) -> Option<RevokedCertificate<'a>> {
         let mut entries = self.revoked_certificates()?.iter();
         entries.find(|entry| entry.serial_number() == serial_number)
@@ -47,9 +52,9 @@ list! {
 }
 
 parts! {
-    /// A certificate that is revoked (RFC 5280 5.1.2.6).
+    /// A revoked certificate (RFC 5280 5.1.2.6).
     RevokedCertificate: RevokedFields as dm_revoked;
-    /// Its number.
+    /// Its serial number.
     serial_number: Octets<'a> as Integer<'a>,
     /// The extensions of the entry (5.3), such as its reason.
     extensions: Octets<'a> as Extensions<'a>,

@@ -6,21 +6,20 @@ use core::fmt;
 use core::iter::FusedIterator;
 
 list! {
-    /// The name of an issuer or a subject (RFC 5280 4.1.2.4). It displays by RFC 4514, the last part first. The texts
-    /// are tested, not proved. Its items are its parts, the first ones first: each is a set of attributes, and mostly
-    /// of one.
+    /// The name of an issuer or a subject (RFC 5280 4.1.2.4). Its items are relative names in order, mostly of one
+    /// attribute each. It displays by RFC 4514, the last relative name first; the texts are tested, not proved.
     ///
-    /// Two of them are equal if their octets are. RFC 5280 7.1 also takes names as equal that differ in case or spaces.
+    /// Names compare by octets. RFC 5280 7.1 also treats names as equal that differ in case or spaces.
     Name, RelativeNames of RelativeName<'a> => next_relative_name
 }
 
 impl<'a> Name<'a> {
-    /// Its parts, as [`iter`](Name::iter).
+    /// Its relative names, as [`iter`](Name::iter).
     pub fn relative_names(self) -> RelativeNames<'a> {
         self.iter()
     }
 
-    /// The attributes of all its parts, in order.
+    /// The attributes of all relative names, in order.
     pub fn attributes(self) -> Attributes<'a> {
         Attributes {
             relative: Octets::default(),
@@ -35,10 +34,10 @@ impl<'a> Name<'a> {
     }
 }
 
-/// A name with a longer text is written in memory that is allocated for it.
+/// A longer text is written to allocated memory.
 const SHORT_TEXT: usize = 512;
 
-/// By RFC 4514, such as `CN=example.org,O=Example\, Inc.`. A character outside of ASCII is its octets in UTF-8, such as
+/// By RFC 4514, such as `CN=example.org,O=Example\, Inc.`. Characters outside of ASCII are escaped UTF-8, such as
 /// `\C3\A9`. Without the feature `alloc`, a text of more than 512 octets is an error.
 impl fmt::Display for Name<'_> {
     fn fmt(&self, f: &mut fmt::Formatter<'_>) -> fmt::Result {
@@ -47,12 +46,12 @@ impl fmt::Display for Name<'_> {
     }
 }
 
-/// A part of a [`Name`]: a set of attributes.
+/// A relative name of a [`Name`]: a set of attributes.
 #[derive(Clone, Copy, PartialEq, Eq, Hash)]
 pub struct RelativeName<'a>(Octets<'a>);
 
 impl<'a> RelativeName<'a> {
-    /// Its attributes, one at least.
+    /// Its attributes, at least one.
     pub fn attributes(self) -> Attributes<'a> {
         Attributes {
             relative: self.0,
@@ -75,7 +74,7 @@ impl fmt::Debug for RelativeName<'_> {
 
 forward!(IntoIterator by attributes for ['a] RelativeName<'a> as Attributes<'a>);
 
-/// The attributes of a [`Name`] or of a part of it.
+/// The attributes of a [`Name`] or of a relative name.
 #[derive(Clone, Debug)]
 pub struct Attributes<'a> {
     /// What is left of the part that is read.
@@ -122,7 +121,7 @@ impl<'a> Attribute<'a> {
         self.0.constructed != 0
     }
 
-    /// The value, if it is a character string that [`Any::as_str`](crate::Any::as_str) has.
+    /// The value, if it is a character string of a type of [`Any::as_str`](crate::Any::as_str).
     pub fn as_str(&self) -> Option<&'a str> {
         match self.is_constructed() || !self.tag().is_text() {
             true => None,

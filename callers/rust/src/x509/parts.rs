@@ -86,7 +86,7 @@ macro_rules! parts {
     };
     (@from $name:ident $read:ident) => {
         impl<'a> $name<'a> {
-            /// Reads the one that the octets are in DER, exactly as its ASN.1 has it.
+            /// Reads it in DER, by its ASN.1, without trailing data.
             pub fn from_der(octets: &'a [u8]) -> crate::Result<$name<'a>> {
                 crate::ffi::$read(octets).map($name)
             }
@@ -98,7 +98,7 @@ macro_rules! parts {
         pub struct $name<'a>($fields<'a>, &'a [u8]);
 
         impl<'a> $name<'a> {
-            /// Reads the one that the input is in DER, exactly as its ASN.1 has it.
+            /// Reads it in DER, by its ASN.1, without trailing data.
             pub fn from_der(input: &'a [u8]) -> crate::Result<$name<'a>> {
                 Ok($name(crate::ffi::$read(input)?, input))
             }
@@ -127,12 +127,12 @@ macro_rules! list {
                 crate::ffi::$read(octets).map($name)
             })?
 
-            /// The encodings of the items, one after the other.
+            /// The encodings of the items.
             pub fn as_bytes(self) -> &'a [u8] {
                 self.0.get()
             }
 
-            /// Whether there are none.
+            /// Whether it is empty.
             pub fn is_empty(self) -> bool {
                 self.as_bytes().is_empty()
             }

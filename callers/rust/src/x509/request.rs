@@ -1,17 +1,17 @@
-//! Requests for certificates.
+//! Certification requests.
 use super::{Algorithm, AlgorithmFields, Error, Extensions, Name, PublicKey};
 use crate::ffi::{self, BitsFields, Octets};
 use crate::{oid, BitString, ObjectIdentifier};
 
-/// The attribute that asks for extensions (RFC 2985 5.4.2).
+/// The attribute extensionRequest (RFC 2985 5.4.2).
 const EXTENSION_REQUEST: ObjectIdentifier<'static> = oid!(1, 2, 840, 113549, 1, 9, 14);
 
 parts! {
-    /// A request for a certificate (RFC 2986 4).
+    /// A certification request (RFC 2986 4).
     CertificationRequest: RequestFields as dm_request by read_request;
     /// The encoding of certificationRequestInfo: the octets that are signed.
     info: Octets<'a> as &'a [u8],
-    /// Who asks.
+    /// The subject.
     subject: Octets<'a> as Name<'a>,
     key_algorithm: AlgorithmFields<'a>,
     key: BitsFields<'a>,
@@ -29,8 +29,8 @@ impl<'a> CertificationRequest<'a> {
         PublicKey::new(self.0.key_algorithm, self.0.key)
     }
 
-    /// The extensions that the attribute extensionRequest asks for. There are none if it is absent. Offsets of an error
-    /// count from the start of that attribute's values.
+    /// The extensions in the attribute extensionRequest, if any. Offsets of errors count from the start of the
+    /// attribute's values.
     pub fn extensions(&self) -> Result<Extensions<'a>, Error> {
         let mut attributes = self.attributes().iter();
         match attributes.find(|attribute| attribute.identifier() == EXTENSION_REQUEST) {
@@ -50,6 +50,6 @@ parts! {
     RequestAttribute: RequestAttributeFields as dm_request_attribute;
     /// Its type.
     identifier: Octets<'a> as ObjectIdentifier<'a>,
-    /// The encodings of its values, one after the other: a [`Reader`](crate::Reader) reads them.
+    /// The encodings of its values: read them with a [`Reader`](crate::Reader).
     values: Octets<'a> as &'a [u8],
 }

@@ -4,7 +4,7 @@ use crate::ffi::{self, AnyFields, BitsFields, GeneralNameFields, Octets};
 use crate::{BitString, ObjectIdentifier, Tag};
 
 list! {
-    /// The policies of a CertificatePolicies (RFC 5280 4.2.1.4), one at least. That a policy comes once isn't asked.
+    /// CertificatePolicies (RFC 5280 4.2.1.4): at least one policy. Repetition isn't checked.
     Policies, PoliciesIter of Policy<'a> => next_policy, read_certificate_policies
 }
 
@@ -13,7 +13,7 @@ parts! {
     Policy: PolicyFields as dm_policy;
     /// Its identifier.
     identifier: Octets<'a> as ObjectIdentifier<'a>,
-    /// What qualifies it.
+    /// Its qualifiers.
     qualifiers: Octets<'a> as PolicyQualifiers<'a>,
 }
 
@@ -38,30 +38,30 @@ impl<'a> From<AnyFields<'a>> for (Tag, &'a [u8]) {
 }
 
 list! {
-    /// The points of a CRLDistributionPoints (RFC 5280 4.2.1.13) or a FreshestCRL (4.2.1.15), one at least.
+    /// CRLDistributionPoints (RFC 5280 4.2.1.13) or FreshestCRL (4.2.1.15): at least one point.
     DistributionPoints, DistributionPointsIter of DistributionPoint<'a> => next_distribution_point,
     read_distribution_points
 }
 
 parts! {
-    /// Where a list of revoked certificates is (RFC 5280 4.2.1.13).
+    /// Where a CRL is (RFC 5280 4.2.1.13).
     DistributionPoint: DistributionPointFields as dm_distribution_point;
-    /// Its names. There are none if it has no such field.
+    /// Its names, if any.
     full_name: Octets<'a> as GeneralNames<'a>,
-    /// What follows the name of the issuer. It has no attribute if it is absent.
+    /// A name relative to the issuer's. It has no attribute if it is absent.
     relative_name: Octets<'a> as RelativeName<'a>,
     /// A bit for each reason, from keyCompromise (1) to aACompromise (8). `None` for all.
     reasons: BitsFields<'a> as Option<BitString<'a>>,
-    /// Who signs the list. There is none if it has no such field.
+    /// Who signs the CRL, if it isn't the certificate's issuer.
     crl_issuer: Octets<'a> as GeneralNames<'a>,
 }
 
 parts! {
-    /// Which names certificates may have (RFC 5280 4.2.1.10).
+    /// NameConstraints (RFC 5280 4.2.1.10).
     NameConstraints: NameConstraintsFields as dm_name_constraints from read_name_constraints;
-    /// Names that they may have. There are none if it has no such field.
+    /// Names that certificates may have, if any.
     permitted: Octets<'a> as Subtrees<'a>,
-    /// Names that they may not have. There are none if it has no such field.
+    /// Names that certificates may not have, if any.
     excluded: Octets<'a> as Subtrees<'a>,
 }
 
@@ -71,20 +71,20 @@ list! {
 }
 
 parts! {
-    /// A name, and those below it (RFC 5280 4.2.1.10).
+    /// A name and those below it (RFC 5280 4.2.1.10).
     Subtree: SubtreeFields as dm_subtree;
-    /// The name. An address has a mask behind it: 8 octets of IPv4, 32 of IPv6.
+    /// The name. An address is followed by its mask: 8 octets of IPv4, 32 of IPv6.
     base: GeneralNameFields<'a> as GeneralName<'a>,
-    /// 0 by RFC 5280, which isn't asked.
+    /// RFC 5280 allows only 0, which isn't checked.
     minimum: u32 as u32,
-    /// `None` by RFC 5280, which isn't asked.
+    /// RFC 5280 allows only `None`, which isn't checked.
     maximum: u32 as u32 where has_maximum,
     has_maximum: u32,
     reserved: u32,
 }
 
 list! {
-    /// The descriptions of an AuthorityInfoAccess or a SubjectInfoAccess (RFC 5280 4.2.2), one at least.
+    /// AuthorityInfoAccess or SubjectInfoAccess (RFC 5280 4.2.2): at least one description.
     AccessDescriptions, AccessDescriptionsIter of AccessDescription<'a> => next_access_description,
     read_information_access
 }
@@ -92,19 +92,19 @@ list! {
 parts! {
     /// Where information is (RFC 5280 4.2.2).
     AccessDescription: AccessDescriptionFields as dm_access_description;
-    /// How it is read.
+    /// The access method.
     method: Octets<'a> as ObjectIdentifier<'a>,
-    /// Where it is.
+    /// The location.
     location: GeneralNameFields<'a> as GeneralName<'a>,
 }
 
 list! {
-    /// The pairs of a PolicyMappings (RFC 5280 4.2.1.5), one at least.
+    /// PolicyMappings (RFC 5280 4.2.1.5): at least one pair.
     PolicyMappings, PolicyMappingsIter of PolicyMapping<'a> => next_policy_mapping, read_policy_mappings
 }
 
 parts! {
-    /// A policy of the issuer, and the one of the subject that it stands for (RFC 5280 4.2.1.5).
+    /// A policy of the issuer, and the subject's policy that it equals (RFC 5280 4.2.1.5).
     PolicyMapping: PolicyMappingFields as dm_policy_mapping;
     /// issuerDomainPolicy
     issuer_policy: Octets<'a> as ObjectIdentifier<'a>,
@@ -112,12 +112,12 @@ parts! {
     subject_policy: Octets<'a> as ObjectIdentifier<'a>,
 }
 
-/// From where on in a path policies are asked for, or no longer mapped (RFC 5280 4.2.1.11).
+/// PolicyConstraints (RFC 5280 4.2.1.11).
 #[derive(Clone, Copy, Debug, PartialEq, Eq, Hash)]
 pub struct PolicyConstraints {
-    /// How many certificates may follow before each needs an acceptable policy.
+    /// How many certificates may follow in a path before each needs an acceptable policy.
     pub require_explicit_policy: Option<u32>,
-    /// How many may follow before policies are no longer mapped.
+    /// How many may follow in a path before policies are no longer mapped.
     pub inhibit_policy_mapping: Option<u32>,
 }
 
@@ -137,70 +137,69 @@ impl PolicyConstraints {
 }
 
 list! {
-    /// The attributes of a SubjectDirectoryAttributes (RFC 5280 4.2.1.8), one at least.
+    /// SubjectDirectoryAttributes (RFC 5280 4.2.1.8): at least one attribute.
     DirectoryAttributes, DirectoryAttributesIter of RequestAttribute<'a> => next_directory_attribute,
     read_directory_attributes
 }
 
 parts! {
-    /// Which certificates a list of revoked ones is about (RFC 5280 5.2.5).
+    /// IssuingDistributionPoint (RFC 5280 5.2.5): which certificates a CRL is about.
     IssuingDistributionPoint: IssuingDistributionPointFields as dm_issuing_distribution_point
         from read_issuing_distribution_point;
-    /// Where the list is found. There are no names if it has no such field.
+    /// Where the CRL is found, if it says so.
     full_name: Octets<'a> as GeneralNames<'a>,
-    /// What follows the name of the issuer. It has no attribute if it is absent.
+    /// A name relative to the issuer's. It has no attribute if it is absent.
     relative_name: Octets<'a> as RelativeName<'a>,
-    /// A bit for each reason that the list has, as of a [`DistributionPoint`]. `None` for all.
+    /// A bit for each reason, as in [`DistributionPoint`]. `None` for all.
     reasons: BitsFields<'a> as Option<BitString<'a>>,
-    /// Whether it has only certificates of end entities.
+    /// Whether it lists only certificates of end entities.
     only_contains_user_certs: u32 => only_contains_user_certs,
-    /// Whether it has only certificates of authorities.
+    /// Whether it lists only certificates of CAs.
     only_contains_ca_certs: u32 => only_contains_ca_certs,
-    /// Whether it has certificates of other issuers.
+    /// Whether it lists certificates of other issuers.
     indirect_crl: u32 => is_indirect,
-    /// Whether it has only attribute certificates.
+    /// Whether it lists only attribute certificates.
     only_contains_attribute_certs: u32 => only_contains_attribute_certs,
 }
 
 list! {
-    /// The signed certificate timestamps of an SCT list (RFC 6962 3.3), one at least: the octets of each (3.2), which
-    /// aren't looked into.
+    /// Signed certificate timestamps (RFC 6962 3.3), at least one: the octets of each (3.2), which aren't checked.
     Timestamps, TimestampsIter of &'a [u8] => next_timestamp, read_signed_certificate_timestamps
 }
 
 list! {
-    /// The extensions of TLS that a server has to speak (RFC 7633 4.1), by their numbers, such as 5, status_request.
-    /// There may be none.
+    /// The numbers of TLS extensions that a server must support (RFC 7633 4.1), such as 5 (status_request). There may
+    /// be none.
     TlsFeatures, TlsFeaturesIter of u32 => next_tls_feature, read_tls_features
 }
 
 list! {
-    /// What is stated of a qualified certificate (RFC 3739 3.2.6), maybe nothing.
+    /// Statements of a qualified certificate (RFC 3739 3.2.6), maybe none.
     QcStatements, QcStatementsIter of QcStatement<'a> => next_qc_statement, read_qc_statements
 }
 
 parts! {
     /// A statement of a qualified certificate (RFC 3739 3.2.6).
     QcStatement: QcStatementFields as dm_qc_statement;
-    /// Which one it is.
+    /// Its type.
     identifier: Octets<'a> as ObjectIdentifier<'a>,
-    /// What it says: the tag, and the content octets, which aren't read.
+    /// Its value: the tag, and the content octets, which aren't read.
     info: AnyFields<'a> as (Tag, &'a [u8]) where has_info,
     has_info: u32,
     reserved: u32,
 }
 
 parts! {
-    /// In which register an organization is (CA/B Forum, EV Guidelines 9.8.2).
+    /// The register of an organization (CA/B Forum, EV Guidelines 9.8.2).
     OrganizationIdentifier: OrganizationIdentifierFields as dm_organization_identifier
         from read_organization_identifier;
     /// The kind of the register, such as VAT: three characters.
     scheme: Octets<'a> as &'a str,
-    /// Its country, two characters.
+    /// The register's country, two characters.
     country: Octets<'a> as &'a str,
-    /// Its state or province.
+    /// The register's state or province.
     state_or_province: Octets<'a> as &'a str where has_state_or_province,
-    /// The number of the organization in it.
+    /// The organization's number in the register.
     reference: Octets<'a> as &'a str,
     has_state_or_province: u32,
     reserved: u32,

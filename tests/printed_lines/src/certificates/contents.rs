@@ -1,7 +1,7 @@
 //! All that is printed of a certificate.
 use crate::certificates::values::{Value, read_values};
 use anyhow::Result;
-use der_x509::{Certificate, read_certificate};
+use x509::{Certificate, read_certificate};
 use std::alloc::Global;
 
 /// A certificate, and the values of its extensions in their order.

@@ -4,8 +4,8 @@ use crate::certificates::values::Value;
 use der_extensions::{BasicConstraints, GeneralName, GeneralNames};
 use der_parser::ber::ASN1DateTime;
 use der_parser::values::BitString;
-use der_x509::{Extension, Version};
-use name_text::NameText;
+use x509::{Extension, Version};
+use extension_text::names::NameText;
 use std::fmt;
 use std::net::IpAddr;
 

@@ -1,14 +1,16 @@
 //! What three extensions say (RFC 5280 4.2.1).
-use der_extensions::extension_identifiers::{BASIC_CONSTRAINTS, KEY_USAGE, SUBJECT_ALT_NAME};
-use der_extensions::{BasicConstraints, GeneralNames, read_basic_constraints, read_general_names};
+use der_extensions::{
+    BasicConstraints, GeneralNames, KnownExtension, known_extension, read_basic_constraints,
+    read_general_names,
+};
 use der_parser::cursor::{Cursor, FieldRefusal, Named, Refusal};
 use der_parser::error::BerError;
-use der_parser::values::{BitString, HasArcs};
-use der_x509::{Extension, Extensions};
+use der_parser::values::BitString;
+use x509::{Extension, Extensions};
 use std::alloc::Global;
 
 /// What an extension says.
-#[derive(Debug, Drop)]
+#[derive(Drop)]
 pub enum Value<'a> {
     /// Whether the key signs certificates, and how many may stand between (4.2.1.9).
     BasicConstraints(BasicConstraints),
@@ -23,17 +25,15 @@ pub enum Value<'a> {
 /// Reads the value of an extension. The offset of an error is that in the value.
 pub fn read_value<'a>(extension: &Extension<'a>) -> Result<Value<'a>, FieldRefusal> {
     let octets = extension.value;
-    if extension.identifier.is(KEY_USAGE) {
-        return read_key_usage(octets).named("keyUsage");
+    match known_extension(extension.identifier.as_bytes()) {
+        Some(KnownExtension::KeyUsage) => read_key_usage(octets).named("keyUsage"),
+        Some(KnownExtension::SubjectAltName) => read_names(octets).named("subjectAltName"),
+        Some(KnownExtension::BasicConstraints) => {
+            let constraints = read_basic_constraints(octets).named("basicConstraints")?;
+            Ok(Value::BasicConstraints(constraints))
+        }
+        _ => Ok(Value::Other),
     }
-    if extension.identifier.is(SUBJECT_ALT_NAME) {
-        return read_names(octets).named("subjectAltName");
-    }
-    if extension.identifier.is(BASIC_CONSTRAINTS) {
-        let constraints = read_basic_constraints(octets).named("basicConstraints")?;
-        return Ok(Value::BasicConstraints(constraints));
-    }
-    Ok(Value::Other)
 }
 
 /// The values of extensions, in order.

@@ -1,8 +1,8 @@
 //! The lines that describe a list.
-use crl_reader::{CertificateList, RevokedCertificate, reason_of};
+use x509::crl::{CertificateList, RevokedCertificate, reason_of};
 use der_base::time::ASN1DateTime;
-use der_x509::{Extensions, Version};
-use name_text::NameText;
+use x509::{Extensions, Version};
+use extension_text::names::NameText;
 use std::fmt;
 
 /// The lines of a list. Octets are in hexadecimal digits.

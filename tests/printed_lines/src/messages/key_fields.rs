@@ -1,5 +1,5 @@
 //! The fields of a private key, a line for each.
-use pkcs8_reader::{PrivateKeyInfo, RsaPrivateKey};
+use x509_keys::{PrivateKeyInfo, RsaPrivateKey};
 use std::fmt;
 
 /// The lines of a key. Octets are in hexadecimal digits.

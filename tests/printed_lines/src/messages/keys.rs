@@ -4,7 +4,7 @@ use anyhow::{Result, ensure};
 use bstr::ByteSlice;
 use der_input::next_block;
 use message_text::{EcKeyText, EncryptedKeyText, PrivateKeyText, PublicKeyText, RsaKeyText};
-use pkcs8_reader::{
+use x509_keys::{
     read_ec_private_key, read_encrypted_key, read_private_key, read_public_key,
     read_rsa_private_key,
 };

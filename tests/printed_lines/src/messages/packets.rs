@@ -1,12 +1,16 @@
 //! Messages of SNMP, LDAP and Kerberos, and the names of a certificate.
 use crate::messages::keys::Printed;
 use crate::messages::request_fields::Requested;
-use anyhow::{Result, anyhow};
-use der_x509::read_certificate;
-use kerberos_reader::read_request;
-use message_text::{LdapText, RequestText, SnmpText};
-use name_text::NameText;
+use anyhow::{Context, Result, anyhow};
+use der_base::rules::Rules;
+use der_known::KnownTypes;
+use extension_text::names::NameText;
+use message_text::{LdapText, RequestText};
+use messages::kerberos::read_request;
+use std::io::Write;
 use test_ldap_stream::print_messages;
+use type_words::words_text;
+use x509::read_certificate;
 
 /// Prints the issuer and the subject of a certificate.
 pub fn print_names(rt: &HostRuntime, input: &[u8]) -> Result<()> {
@@ -36,13 +40,25 @@ pub fn print_snmp(rt: &HostRuntime, input: &[u8], printed: Printed) -> Result<()
             break;
         }
         let offset = input.len().saturating_sub(rest.len());
-        let read = snmp_reader::read_message(rt.alloc(), rest);
+        let read = messages::snmp::read_message(rt.alloc(), rest);
         let (after, message) = read.map_err(|e| anyhow!("message at {offset}: {e}"))?;
         match printed {
             Printed::Fields => println!(rt; "{message}")?,
-            Printed::Words => print!(rt; "{}", SnmpText { message: &message })?,
+            Printed::Words => print_words(rt, &rest[..rest.len() - after.len()], "Message")?,
         }
         rest = after;
+    }
+    Ok(())
+}
+
+/// Prints octets by the words of the known type with this name.
+fn print_words(rt: &HostRuntime, octets: &[u8], name: &str) -> Result<()> {
+    let types = KnownTypes::new();
+    let schema = types.type_named(name).context("a known type")?;
+    let (text, end) = words_text(rt.alloc(), octets, Rules::Ber, schema)?;
+    rt.stdout().write_all(&text)?;
+    if let Some(refusal) = end {
+        println!(rt; "refused at {}", refusal.offset)?;
     }
     Ok(())
 }
@@ -60,7 +76,7 @@ pub fn print_ldap(rt: &HostRuntime, input: &[u8], printed: Printed) -> Result<()
             break;
         }
         let offset = input.len().saturating_sub(rest.len());
-        let read = ldap_reader::read_message(rt.alloc(), rest);
+        let read = messages::ldap::read_message(rt.alloc(), rest);
         let (after, message) = read.map_err(|e| anyhow!("message at {offset}: {e}"))?;
         print!(rt; "{}", LdapText { message: &message })?;
         rest = after;

@@ -1,6 +1,6 @@
 //! The fields of a request for a ticket, a line for each.
 use der_base::time::ASN1DateTime;
-use kerberos_reader::{Principal, Request};
+use messages::kerberos::{Principal, Request};
 use std::fmt;
 
 /// The lines of a request.

@@ -1,6 +1,6 @@
 //! Certificates.
 use test_words::{push_number, push_refused_at};
-use der_x509::{
+use x509::{
     Certificate, Extensions, Name, Rule, StrictRefusal, read_certificate, read_strict_certificate,
 };
 use std::alloc::{AllocError, Global};

@@ -1,14 +1,14 @@
 //! Messages with each of their elements damaged.
-use crl_reader::{CertificateList, read_certificate_list};
+use x509::crl::{CertificateList, read_certificate_list};
 use der_base::error::BerError;
 use der_cursor::Refusal;
 use der_extensions::{read_basic_constraints, read_general_names, read_key_usage};
-use der_request::{
+use x509_keys::request::{
     Attribute, CertificationRequest, attribute_identifiers, read_extension_request, read_request,
 };
 use test_damage::{Outcome, Reader, damaged};
 use der_values::HasArcs;
-use der_x509::read_certificate;
+use x509::read_certificate;
 use std::alloc::Global;
 use test_tables::fault::Fault;
 use test_tables::octets::octets;

@@ -1,7 +1,7 @@
 //! Extensions, by their identifiers.
 use der_extensions::{ExtensionValue, read_extension_value};
 use der_values::ObjectIdentifier;
-use der_x509::Extension;
+use x509::Extension;
 use std::alloc::Global;
 use test_tables::fault::Fault;
 use test_tables::octets::octets;
@@ -54,6 +54,7 @@ fn name_of(value: &ExtensionValue<'_>) -> &'static str {
         ExtensionValue::PrecertificatePoison => "PrecertificatePoison",
         ExtensionValue::TlsFeatures(_) => "TlsFeatures",
         ExtensionValue::OcspNoCheck => "OcspNoCheck",
+        ExtensionValue::NoRevAvail => "NoRevAvail",
         ExtensionValue::QcStatements(_) => "QcStatements",
         ExtensionValue::OrganizationIdentifier(_) => "OrganizationIdentifier",
         ExtensionValue::Other => "Other",

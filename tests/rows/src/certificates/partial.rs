@@ -1,5 +1,5 @@
 //! Certificates that are refused.
-use partial_certificate::{PartialCertificate, read_partial_certificate};
+use x509::partial::{PartialCertificate, read_partial_certificate};
 use std::alloc::{AllocError, Global};
 use test_tables::fault::Fault;
 use test_tables::octets::{push_octets, push_word};

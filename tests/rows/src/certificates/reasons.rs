@@ -1,5 +1,5 @@
 //! Reasons of revocations.
-use crl_reader::{Reason, read_certificate_list, read_reason};
+use x509::crl::{Reason, read_certificate_list, read_reason};
 use der_base::error::BerError;
 use der_cursor::Refusal;
 use test_words::push_number;

@@ -1,11 +1,11 @@
 //! Certification requests, and lists of revoked certificates.
-use crl_reader::read_certificate_list;
-use der_request::{
+use x509::crl::read_certificate_list;
+use x509_keys::request::{
     CertificationRequest, Values, attribute_identifiers, read_challenge_password,
     read_extension_request, read_request,
 };
 use der_values::HasArcs;
-use der_x509::Name;
+use x509::Name;
 use std::alloc::{AllocError, Global};
 use test_tables::fault::Fault;
 use test_tables::octets::{push_octets, push_word};

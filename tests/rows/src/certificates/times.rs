@@ -1,7 +1,7 @@
 //! Times, compared as times, whichever type each is encoded as. A row's times are the texts of GeneralizedTimes.
 use der_base::time::ASN1DateTime;
 use der_cursor::Cursor;
-use der_x509::{Time, Validity};
+use x509::{Time, Validity};
 use std::alloc::Global;
 use test_tables::fault::Fault;
 

@@ -1,6 +1,6 @@
 //! Critical extensions that the library doesn't know.
 use der_extensions::has_unknown_critical;
-use der_x509::Extensions;
+use x509::Extensions;
 use std::alloc::Global;
 use test_tables::fault::Fault;
 

@@ -3,7 +3,7 @@ use der_base::error::BerError;
 use der_cursor::Refusal;
 use der_extensions::{
     OrganizationIdentifier, QcStatements, SignedCertificateTimestamps, TlsFeatures,
-    read_ocsp_no_check, read_organization_identifier, read_precertificate_poison,
+    read_null, read_organization_identifier,
     read_qc_statements, read_signed_certificate_timestamps, read_tls_features,
 };
 use std::alloc::{AllocError, Global};
@@ -14,8 +14,8 @@ use test_words::push_number;
 /// What the reader of this extension reads, if it is one of these.
 pub fn web_value(alloc: Global, call: &str, octets: &[u8]) -> Result<Option<String>, Fault> {
     let text = match call {
-        "ocsp_no_check" => null(alloc, read_ocsp_no_check(octets)),
-        "precertificate_poison" => null(alloc, read_precertificate_poison(octets)),
+        "ocsp_no_check" => null(alloc, read_null(octets)),
+        "precertificate_poison" => null(alloc, read_null(octets)),
         "tls_features" => tls_features(alloc, read_tls_features(octets)),
         "signed_certificate_timestamps" => {
             timestamps(alloc, read_signed_certificate_timestamps(octets))

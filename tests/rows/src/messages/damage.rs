@@ -1,10 +1,10 @@
 //! Messages with each of their elements damaged.
 use der_base::error::Err as Refused;
 use der_cursor::Cursor;
-use der_distinguished_name::read_name;
+use der_uses::names::read_name;
 use test_damage::{Outcome, Reader, damaged};
-use kerberos_reader::read_request;
-use pkcs8_reader::{read_private_key, read_rsa_private_key};
+use messages::kerberos::read_request;
+use x509_keys::{read_private_key, read_rsa_private_key};
 use std::alloc::Global;
 use test_tables::fault::Fault;
 use test_tables::octets::octets;
@@ -27,9 +27,9 @@ enum Kind {
     KerberosRequest,
     SnmpMessage,
     LdapMessage,
-    /// With a cursor, as der_x509 does.
+    /// With a cursor, as x509 does.
     Name,
-    /// As der_distinguished_name does, which reports no offset.
+    /// As der_uses::names does, which reports no offset.
     PlainName,
 }
 
@@ -84,7 +84,7 @@ fn kerberos_request(alloc: Global, octets: &[u8]) -> Outcome {
 }
 
 fn snmp_message(alloc: Global, octets: &[u8]) -> Outcome {
-    let Some(refused) = snmp_reader::read_message(alloc, octets).err() else {
+    let Some(refused) = messages::snmp::read_message(alloc, octets).err() else {
         return Outcome::Read;
     };
     match refused.refusal.reason {
@@ -94,7 +94,7 @@ fn snmp_message(alloc: Global, octets: &[u8]) -> Outcome {
 }
 
 fn ldap_message(alloc: Global, octets: &[u8]) -> Outcome {
-    let Some(refused) = ldap_reader::read_message(alloc, octets).err() else {
+    let Some(refused) = messages::ldap::read_message(alloc, octets).err() else {
         return Outcome::Read;
     };
     match refused.refusal.reason {
@@ -105,7 +105,7 @@ fn ldap_message(alloc: Global, octets: &[u8]) -> Outcome {
 
 fn name(octets: &[u8]) -> Outcome {
     let mut input = Cursor::new(octets);
-    match der_x509::parts::read_name(&mut input).err() {
+    match x509::parts::read_name(&mut input).err() {
         None => Outcome::Read,
         Some(refusal) => Outcome::RefusedAt(refusal.offset),
     }

@@ -1,9 +1,9 @@
 //! Names.
 use der_base::error::BerError;
 use der_cursor::Cursor;
-use der_distinguished_name::{Attr, Name};
-use der_x509::parts::read_name;
-use name_text::NameText;
+use der_uses::names::{Attr, Name};
+use x509::parts::read_name;
+use extension_text::names::NameText;
 use test_words::{push_number, push_refusal, push_refused, push_rest};
 use std::alloc::{AllocError, Global};
 use test_tables::fault::Fault;
@@ -28,7 +28,7 @@ pub fn name_text(alloc: Global, octets: &[u8]) -> Result<String, Fault> {
 /// octets of the text.
 pub fn plain_name(alloc: Global, octets: &[u8]) -> Result<String, Fault> {
     let mut text = String::new(alloc);
-    match der_distinguished_name::read_name(alloc, octets) {
+    match der_uses::names::read_name(alloc, octets) {
         Ok((rest, name)) => {
             push_name(&mut text, name)?;
             push_rest(&mut text, rest)?;

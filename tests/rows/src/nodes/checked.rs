@@ -1,7 +1,7 @@
 //! Whether octets are elements of BER and of DER.
 use crate::nodes::words::number;
 use der_base::rules::Rules;
-use der_check::{are_elements, is_element};
+use der_elements::check::{are_elements, is_element};
 use std::alloc::Global;
 use test_tables::fault::Fault;
 

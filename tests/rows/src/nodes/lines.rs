@@ -1,6 +1,6 @@
 //! Lines of elements, by names of one's own.
 use der_print::{Limit, Room, Style, write_named_line};
-use der_walk::{Rules, Walk};
+use der_elements::{Rules, Walk};
 use oid_names::OwnNames;
 use std::alloc::Global;
 use std::str;

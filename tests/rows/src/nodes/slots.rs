@@ -1,6 +1,6 @@
 //! Slots that readers write, and how a row spells them.
 use der_base::header::{Class, Tag};
-use der_nodes::{Element, Slot};
+use der_elements::check::{Element, Slot};
 use test_words::{push_number, push_tag};
 use std::alloc::AllocError;
 use test_tables::octets::push_word;

@@ -2,9 +2,10 @@
 use crate::nodes::words::{number, numbers};
 use der_base::error::BerError;
 use der_base::header::Class;
-use der_nodes::Element;
-use test_words::{push_number, push_refusal, push_refused};
-use der_view::{Node, Nodes, read_ber_nodes, read_der_nodes};
+use der_base::rules::Rules;
+use der_elements::check::Element;
+use der_parser::view::{Node, Nodes, read_element};
+use test_words::{push_number, push_refusal};
 use std::alloc::{AllocError, Global};
 use std::fmt::Display;
 use test_tables::fault::Fault;
@@ -12,22 +13,18 @@ use test_tables::fault::Fault;
 /// To which depth elements are read.
 const DEPTH: usize = 50;
 
-/// What is seen of the elements that are read by BER or DER. Behind the rules stand the index of an element, or `root`,
+/// What is seen of the element at the start of the input and those inside it, by BER or DER. Behind the rules stand the index of an element, or `root`,
 /// and a call: `BER 1 as_str`.
 pub fn view(alloc: Global, input: &[u8], words: &str) -> Result<String, Fault> {
     let (rules, words) = words.split_once(' ').ok_or(Fault::NoSuchCall)?;
-    let read = match rules {
-        "BER" => read_ber_nodes(alloc, input, DEPTH),
-        "DER" => read_der_nodes(alloc, input, DEPTH),
+    let rules = match rules {
+        "BER" => Rules::Ber,
+        "DER" => Rules::Der,
         _ => return Err(Fault::NoSuchCall),
     };
-    match read {
-        Ok((_, elements)) => seen(alloc, Nodes::new(input, &elements), words),
-        Err(e) => {
-            let mut text = String::new(alloc);
-            push_refused(&mut text, &e)?;
-            Ok(text)
-        }
+    match read_element(alloc, input, rules, DEPTH)? {
+        Some((_, elements)) => seen(alloc, Nodes::new(input, &elements), words),
+        None => Ok(format!(in alloc; "no element")?),
     }
 }
 

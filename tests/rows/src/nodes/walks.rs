@@ -1,7 +1,7 @@
 //! Walks over elements.
 use der_contents::ContentError;
 use test_words::{push_number, push_refusal};
-use der_walk::{Cause, Element, Path, Refusal, Rules, Walk, fault_inside, first_fault};
+use der_elements::{Cause, Element, Path, Refusal, Rules, Walk, fault_inside, first_fault};
 use std::alloc::{AllocError, Global};
 use test_tables::fault::Fault;
 use test_tables::octets::push_word;

@@ -2,7 +2,7 @@
 use crate::writers::capacities::written;
 use der_base::header::Tag;
 use der_writer::Writer;
-use request_writer::{
+use x509_keys::request::writer::{
     AlgorithmIdentifier, NameAttribute, Parameters, PublicKeyInfo, RequestInfo, put_algorithm,
     put_alternative_names, put_name, write_request_info,
 };

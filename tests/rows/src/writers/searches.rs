@@ -1,6 +1,6 @@
 //! Searches of LDAP.
 use crate::writers::capacities::written;
-use ldap_writer::{DerefAliases, Filter, Scope, Search, write_search};
+use messages::ldap::writer::{DerefAliases, Filter, Scope, Search, write_search};
 use std::alloc::Global;
 use test_tables::fault::Fault;
 

@@ -1,5 +1,5 @@
 //! Names: what each public name of `der_parser` is, where another could be in its place.
-use der_parser::IResult;
+use der_parser::{IResult, Rules};
 use der_parser::ber::compat::{BerClass, BerObjectHeader, BerSize, BerTag, Tag as CompatTag};
 use der_parser::ber::{
     BerContent, BerContent2, BerObject, BerObjectContent, BitStringObject, Class, Header, Length,
@@ -10,12 +10,11 @@ use der_parser::der::{
     self, DerClass, DerContent, DerContent2, DerObject, DerObjectContent, DerObjectHeader, DerTag,
     parse_der_container, parse_der_content, parse_der_content2,
 };
-use der_parser::error::DerConstraint::{IndefiniteLength, LengthNotMinimal};
+use der_parser::error::DerConstraint::LengthNotMinimal;
 use der_parser::error::Error::DerConstraintFailed;
 use der_parser::error::{BerError, BerResult, DerResult, Err, Error};
 use der_parser::nodes::{
-    check_ber, check_der, parse_ber_nodes, parse_ber_nodes_counted, parse_ber_nodes_placed,
-    parse_der_nodes, parse_der_nodes_placed, read_ber_nodes, read_der_nodes,
+    Element, are_elements, check_element, is_element, list_element, list_elements, read_element,
 };
 use der_parser::oid::{Oid, OidIter};
 use std::borrow::CowSlice;
@@ -64,36 +63,22 @@ fn constants_have_numbers(rt: HostRuntime) {
     assert_eq!(rt; MAX_RECURSION, 50);
 }
 
-/// By BER an indefinite length is read: a SEQUENCE, a NULL and an end marker. By DER it is refused.
+/// By BER an indefinite length is read: a SEQUENCE, a NULL and an end marker. By DER there is no element.
 #[test]
 fn elements_are_read_by_their_rules(rt: HostRuntime) {
     let input = b"\x30\x80\x05\x00\x00\x00".as_slice();
-    let counted = parse_ber_nodes_counted(input, 2, &mut []);
-    assert!(rt; counted.headers == 3);
-    let by_ber = [
-        check_ber(input, 2),
-        parse_ber_nodes(input, 2, &mut []),
-        parse_ber_nodes_placed(input, 2, &mut []).map_err(|e| e.error),
-        counted.read.map_err(|e| e.error),
-    ];
-    assert!(rt; by_ber.iter().all(|given| *given == Ok((b"".as_slice(), 2))));
-    let by_der = [
-        check_der(input, 2),
-        parse_der_nodes(input, 2, &mut []),
-        parse_der_nodes_placed(input, 2, &mut []).map_err(|e| e.error),
-    ];
-    let refused = Err(Err::Error(DerConstraintFailed(IndefiniteLength)));
-    assert!(rt; by_der.iter().all(|given| *given == refused));
-}
-
-/// The same of the readers into a vector.
-#[test]
-fn vectors_are_read_by_their_rules(rt: HostRuntime) {
-    let input = b"\x30\x80\x05\x00\x00\x00".as_slice();
-    let by_ber = read_ber_nodes(rt.alloc(), input, 2).map(|read| read.1.len());
-    assert!(rt; by_ber == Ok(2));
-    let by_der = read_der_nodes(rt.alloc(), input, 2).map(|read| read.1.len());
-    assert!(rt; by_der == Err(Err::Error(DerConstraintFailed(IndefiniteLength))));
+    for rules in [Rules::Ber, Rules::Der] {
+        let by_ber = rules == Rules::Ber;
+        let count = if by_ber { Some(2) } else { None };
+        assert!(rt; is_element(input, rules, 2) == by_ber);
+        assert!(rt; are_elements(input, rules, 2) == by_ber);
+        assert!(rt; check_element(input, rules, 2).is_some() == by_ber);
+        let one = list_element::<Element>(input, rules, 2, &mut []);
+        assert!(rt; one.map(|listed| listed.elements) == count);
+        assert!(rt; list_elements::<Element>(input, rules, 2, &mut []) == count);
+        let read = read_element(rt.alloc(), input, rules, 2);
+        assert!(rt; matches!(read, Ok(Some((&[], _)))) == by_ber);
+    }
 }
 
 #[test]

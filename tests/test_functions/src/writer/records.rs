@@ -2,7 +2,7 @@
 use der_base::header::{Class, Tag};
 use der_parser::parse_der;
 use der_writer::{WriteError, Writer};
-use snmp_writer::{write_get_request, write_response};
+use messages::snmp::writer::{write_get_request, write_response};
 use std::alloc::Global;
 use std::test::Fail;
 

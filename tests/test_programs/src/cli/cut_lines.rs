@@ -1,7 +1,7 @@
 //! Values that are cut to a width. The columns of a line are counted by hand: 19 for its numbers, those of the type,
 //! and those of the value with the space before it.
 use der_print::{Limit, Room, Style, write_line};
-use der_walk::{Rules, Walk};
+use der_elements::{Rules, Walk};
 use std::alloc::Global;
 use std::io;
 use std::process::Abort;

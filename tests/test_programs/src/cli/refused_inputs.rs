@@ -3,7 +3,7 @@ use der_input::Form;
 use der_print::{Limit, Style};
 use der_actions::options::{Action, Naming, Options};
 use der_cli::run::run;
-use der_walk::Rules;
+use der_elements::Rules;
 use std::process::Abort;
 use std::str;
 use std::test::Fail;

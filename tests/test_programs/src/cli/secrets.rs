@@ -5,6 +5,7 @@ use crate::cli::whole_runs::on_screen;
 use base64::engine::general_purpose::STANDARD;
 use keys::{KEYS, Number};
 use std::alloc::{AllocError, Global};
+use std::collections::BTreeSet;
 use std::rt::Files;
 use std::test::Fail;
 
@@ -36,33 +37,72 @@ const WHOLE: &[&[&str]] = &[
     &["der", "json", "--from", "der", "--as", "none"],
 ];
 
-/// How many octets of a number are looked for at once, and how many of its decimal digits.
-const OCTETS: usize = 8;
+/// How many digits of a number are looked for at once, in hexadecimal and in decimal, and how many characters of base64.
+const HEX: usize = 16;
 
 const DIGITS: usize = 19;
 
-/// Whether some octets of a number, or some of its digits, are in a text: in hexadecimal or decimal digits, or base64.
-fn shows(alloc: Global, text: &str, number: &Number) -> Result<bool, AllocError> {
-    let (octets, digits) = *number;
-    for begin in 0..octets.len() - OCTETS + 1 {
-        let here = &octets[begin..begin + OCTETS];
-        let mut hex = String::new(alloc);
-        for octet in here {
-            let pair = format!(in alloc; "{octet:02x}")?;
-            hex.push_str(&pair)?;
-        }
-        // Eight octets in base64 have six that begin where four characters do.
-        let base64 = STANDARD.encode(alloc, &here[..6])?;
-        if text.contains(hex.as_str()) || text.contains(base64.as_str()) {
-            return Ok(true);
+const BASE64: usize = 8;
+
+/// What is printed, as the parts of each length that is looked for.
+#[derive(Drop)]
+struct Shown<'a> {
+    hex: BTreeSet<&'a [u8]>,
+    base64: BTreeSet<&'a [u8]>,
+    decimal: BTreeSet<&'a [u8]>,
+}
+
+/// Whether base64 has an octet (RFC 4648 4).
+fn is_base64(octet: &u8) -> bool {
+    octet.is_ascii_alphanumeric() || *octet == b'+' || *octet == b'/'
+}
+
+/// All parts of a length in a text that have these octets alone.
+fn parts(
+    alloc: Global,
+    text: &[u8],
+    length: usize,
+    is_of: impl Fn(&u8) -> bool + Copy,
+) -> Result<BTreeSet<&[u8]>, AllocError> {
+    let mut parts = BTreeSet::new(alloc);
+    for run in text.split(move |octet| !is_of(octet)) {
+        for part in run.windows(length) {
+            parts.insert(part)?;
         }
     }
-    for begin in 0..digits.len().saturating_sub(DIGITS) {
-        if text.contains(&digits[begin..begin + DIGITS]) {
+    Ok(parts)
+}
+
+impl<'a> Shown<'a> {
+    fn new(alloc: Global, text: &'a [u8]) -> Result<Self, AllocError> {
+        Ok(Shown {
+            hex: parts(alloc, text, HEX, u8::is_ascii_hexdigit)?,
+            base64: parts(alloc, text, BASE64, is_base64)?,
+            decimal: parts(alloc, text, DIGITS, u8::is_ascii_digit)?,
+        })
+    }
+
+    /// Whether some octets of a number, or some of its digits, are in it: in hexadecimal or decimal digits, or base64.
+    fn has(&self, alloc: Global, number: &Number) -> Result<bool, AllocError> {
+        let (octets, digits) = *number;
+        let hex = hex::encode(alloc, octets)?;
+        if has_part(&self.hex, hex.as_bytes(), HEX) || has_part(&self.decimal, digits.as_bytes(), DIGITS) {
             return Ok(true);
         }
+        // Characters begin at every third octet.
+        for begin in 0..3 {
+            let base64 = STANDARD.encode(alloc, &octets[begin..])?;
+            if has_part(&self.base64, base64.as_bytes(), BASE64) {
+                return Ok(true);
+            }
+        }
+        Ok(false)
     }
-    Ok(false)
+}
+
+/// Whether a part of this length is among others.
+fn has_part(parts: &BTreeSet<&[u8]>, text: &[u8], length: usize) -> bool {
+    text.windows(length).any(|part| parts.contains(part))
 }
 
 /// Whether a run of the program over a key shows one of its private numbers.
@@ -73,9 +113,9 @@ fn shows_any(
     numbers: &[Number],
 ) -> Result<bool, AllocError> {
     let (screen, _) = on_screen(rt, arguments, &[], octets, false);
-    let text = String::from_utf8_lossy(rt.alloc(), &screen)?;
+    let shown = Shown::new(rt.alloc(), &screen)?;
     for number in numbers {
-        if shows(rt.alloc(), &text, number)? {
+        if shown.has(rt.alloc(), number)? {
             return Ok(true);
         }
     }
@@ -103,9 +143,9 @@ fn all_private_numbers_are_printed_without_a_type(rt: HostRuntime) -> Result<(),
     for (what, _, octets, numbers) in KEYS {
         for arguments in WHOLE {
             let (screen, _) = on_screen(&rt, arguments, &[], octets, false);
-            let text = String::from_utf8_lossy(rt.alloc(), &screen)?;
+            let shown = Shown::new(rt.alloc(), &screen)?;
             for number in *numbers {
-                assert!(rt; shows(rt.alloc(), &text, number)?, "{what}: {arguments:?}");
+                assert!(rt; shown.has(rt.alloc(), number)?, "{what}: {arguments:?}");
             }
         }
     }

@@ -1,6 +1,6 @@
 use Rattle.std.proofs.Common.{refl}
-use Rattle.der_x509.proofs.CertificateLaws.{extension_exact}
-use Rattle.der_x509.proofs.ListLaws.{no_item}
+use Rattle.x509.proofs.CertificateLaws.{extension_exact}
+use Rattle.x509.proofs.ListLaws.{no_item}
 use Rattle.c_formats.proofs.lists.next_extension.Goals as goal
 
 pub returns-in_default : goal.returns-in_default

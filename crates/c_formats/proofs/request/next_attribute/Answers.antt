@@ -1,6 +1,6 @@
 use Rattle.std.proofs.Common.{refl, subst}
-use Rattle.der_request.specs.Requests.{attribute}
-use Rattle.der_x509.specs.Lists.{BeginsWithNone}
+use Rattle.x509_keys.specs.Request.Requests.{attribute}
+use Rattle.x509.specs.Lists.{BeginsWithNone}
 use Rattle.c_formats.proofs.request.next_attribute.Goals as goal
 
 pub returns-in_default : goal.returns-in_default

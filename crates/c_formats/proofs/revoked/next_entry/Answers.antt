@@ -1,6 +1,6 @@
 use Rattle.std.proofs.Common.{refl, subst}
-use Rattle.crl_reader.specs.Lists.{revoked_certificate}
-use Rattle.der_x509.specs.Lists.{BeginsWithNone}
+use Rattle.x509.specs.Crl.Lists.{revoked_certificate}
+use Rattle.x509.specs.Lists.{BeginsWithNone}
 use Rattle.c_formats.proofs.revoked.next_entry.Goals as goal
 
 pub returns-in_default : goal.returns-in_default

@@ -1,5 +1,5 @@
 use Rattle.std.proofs.Common.{◌∷◌, []}
-use Rattle.der_nodes.proofs.Overlays.{overlay_one, overlay_behind}
+use Rattle.der_elements.proofs.CheckLaws.Overlays.{overlay_one, overlay_behind}
 use Rattle.c_values.proofs.text.put_octet.Goals as goal
 
 pub returns-then-at-room : goal.returns-then-at-room

@@ -1,6 +1,6 @@
 use Rattle.std.proofs.Common.{inl, inr}
 use Rattle.der_values.specs.Kinds.{borrowed_octets}
-use Rattle.name_text.proofs.WriteLaws.{one, restated}
+use Rattle.extension_text.proofs.NamesLaws.WriteLaws.{one, restated}
 use Rattle.certificate_text.proofs.key.write_curve.Goals as goal
 
 pub returns-in-Ok : goal.returns-in-Ok

@@ -1,5 +1,5 @@
 use Rattle.std.proofs.Common.{inl, inr}
-use Rattle.name_text.proofs.WriteLaws.{one, restated}
+use Rattle.extension_text.proofs.NamesLaws.WriteLaws.{one, restated}
 use Rattle.certificate_text.proofs.key.write_detail.Goals as goal
 
 pub returns-then-is_rsa : goal.returns-then-is_rsa

@@ -1,4 +1,4 @@
-use Rattle.name_text.proofs.WriteLaws.{nothing}
+use Rattle.extension_text.proofs.NamesLaws.WriteLaws.{nothing}
 use Rattle.certificate_text.proofs.partial.write_optional_algorithm.Goals as goal
 
 pub returns-in-None : goal.returns-in-None

@@ -1,5 +1,5 @@
 use Rattle.std.proofs.Common.{Err, Ok}
-use Rattle.name_text.proofs.WriteLaws.{restated}
+use Rattle.extension_text.proofs.NamesLaws.WriteLaws.{restated}
 use Rattle.extension_text.proofs.UnreadLaws.{unread_text}
 use Rattle.certificate_text.proofs.reason.write_entry_value.Goals as goal
 

@@ -1,6 +1,6 @@
 use Rattle.std.proofs.Common.{Err, Ok, ap, codes, ◌∙◌}
-use Rattle.name_text.specs.Values.{line}
-use Rattle.name_text.proofs.WriteLaws.{one, restated}
+use Rattle.extension_text.specs.Names.Values.{line}
+use Rattle.extension_text.proofs.NamesLaws.WriteLaws.{one, restated}
 use Rattle.extension_text.proofs.UnreadLaws.{unread_text}
 use Rattle.certificate_text.proofs.reason.write_reason.Goals as goal
 

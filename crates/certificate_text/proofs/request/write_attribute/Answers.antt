@@ -1,5 +1,5 @@
 use Rattle.std.proofs.Common.{inl, inr}
-use Rattle.name_text.proofs.WriteLaws.{restated}
+use Rattle.extension_text.proofs.NamesLaws.WriteLaws.{restated}
 use Rattle.certificate_text.proofs.request.write_attribute.Goals as goal
 
 pub returns-then-is_extension_request : goal.returns-then-is_extension_request

@@ -1,7 +1,7 @@
 use Rattle.std.proofs.Common.{[], ◌++◌, ap, refl, ◌∙◌}
 use Rattle.std.proofs.Output.{has_written_append, writes_in_calls_nil}
-use Rattle.der_request.specs.Lists.{attributes_left}
-use Rattle.name_text.proofs.LoopLaws.{goes_end, goes_on, goes_start}
+use Rattle.x509_keys.specs.Request.Lists.{attributes_left}
+use Rattle.extension_text.proofs.NamesLaws.LoopLaws.{goes_end, goes_on, goes_start}
 use Rattle.certificate_text.proofs.request.write_attributes.Goals as goal
 
 pub loop-attribute-init : goal.loop-attribute-init

@@ -1,9 +1,9 @@
 use Rattle.std.proofs.Common.{List, ℕ}
 use Rattle.std.specs.Fmt.{HasWritten, IsPlainFormatter}
-use Rattle.der_request.specs.Lists.{attributes_left}
-use Rattle.der_x509.specs.Formats.{spells}
-use Rattle.der_request.specs.Requests.{attribute}
-use Rattle.name_text.proofs.LoopLaws.{Goes}
+use Rattle.x509_keys.specs.Request.Lists.{attributes_left}
+use Rattle.x509.specs.Formats.{spells}
+use Rattle.x509_keys.specs.Request.Requests.{attribute}
+use Rattle.extension_text.proofs.NamesLaws.LoopLaws.{Goes}
 use Rattle.certificate_text.specs.Requests.{IsRequestAttribute}
 use Rattle.certificate_text.proofs.request.write_attributes.Given as goal
 

@@ -1,6 +1,6 @@
 use Rattle.std.proofs.Common.{inl, inr}
 use Rattle.der_cursor.specs.Elements.{element_of}
-use Rattle.name_text.proofs.WriteLaws.{one, restated}
+use Rattle.extension_text.proofs.NamesLaws.WriteLaws.{one, restated}
 use Rattle.certificate_text.proofs.request.write_password.Goals as goal
 
 pub returns-in-Ok : goal.returns-in-Ok

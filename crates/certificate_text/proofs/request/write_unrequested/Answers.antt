@@ -1,5 +1,5 @@
 use Rattle.std.proofs.Common.{inl, inr}
-use Rattle.name_text.proofs.WriteLaws.{restated}
+use Rattle.extension_text.proofs.NamesLaws.WriteLaws.{restated}
 use Rattle.certificate_text.proofs.request.write_unrequested.Goals as goal
 
 pub returns-then-is_challenge_password : goal.returns-then-is_challenge_password

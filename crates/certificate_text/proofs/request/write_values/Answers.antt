@@ -1,8 +1,8 @@
 use Rattle.std.proofs.Common.{[], ◌++◌, ap, refl, ◌∙◌}
 use Rattle.std.proofs.Output.{has_written_append, writes_in_calls_nil}
-use Rattle.der_request.specs.Lists.{values_left}
-use Rattle.name_text.proofs.LoopLaws.{goes_end, goes_on, goes_start}
-use Rattle.name_text.proofs.WriteLaws.{one}
+use Rattle.x509_keys.specs.Request.Lists.{values_left}
+use Rattle.extension_text.proofs.NamesLaws.LoopLaws.{goes_end, goes_on, goes_start}
+use Rattle.extension_text.proofs.NamesLaws.WriteLaws.{one}
 use Rattle.certificate_text.proofs.request.write_values.Goals as goal
 
 pub loop-value-init : goal.loop-value-init

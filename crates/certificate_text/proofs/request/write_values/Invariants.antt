@@ -1,10 +1,10 @@
 use Rattle.std.proofs.Common.{List, ℕ}
 use Rattle.std.specs.Fmt.{HasWritten, IsPlainFormatter}
-use Rattle.der_request.specs.Lists.{values_left}
-use Rattle.der_x509.specs.Formats.{spells}
-use Rattle.der_x509.specs.Formats.{any}
-use Rattle.name_text.specs.Pieces.{Exactly}
-use Rattle.name_text.proofs.LoopLaws.{Goes}
+use Rattle.x509_keys.specs.Request.Lists.{values_left}
+use Rattle.x509.specs.Formats.{spells}
+use Rattle.x509.specs.Formats.{any}
+use Rattle.extension_text.specs.Names.Pieces.{Exactly}
+use Rattle.extension_text.proofs.NamesLaws.LoopLaws.{Goes}
 use Rattle.certificate_text.specs.Requests.{value_line}
 use Rattle.certificate_text.proofs.request.write_values.Given as goal
 

@@ -1,7 +1,7 @@
 use Rattle.std.proofs.Common.{[], ◌++◌, ap, refl, ◌∙◌}
 use Rattle.std.proofs.Output.{has_written_append, writes_in_calls_nil}
-use Rattle.crl_reader.specs.Lists.{entries_left}
-use Rattle.name_text.proofs.LoopLaws.{goes_end, goes_on, goes_start}
+use Rattle.x509.specs.Crl.Lists.{entries_left}
+use Rattle.extension_text.proofs.NamesLaws.LoopLaws.{goes_end, goes_on, goes_start}
 use Rattle.certificate_text.proofs.revoked.write_entries.Goals as goal
 
 pub loop-entry-init : goal.loop-entry-init

@@ -1,9 +1,9 @@
 use Rattle.std.proofs.Common.{List, ℕ}
 use Rattle.std.specs.Fmt.{HasWritten, IsPlainFormatter}
-use Rattle.crl_reader.specs.Lists.{entries_left}
-use Rattle.der_x509.specs.Formats.{spells}
-use Rattle.crl_reader.specs.Lists.{revoked_certificate}
-use Rattle.name_text.proofs.LoopLaws.{Goes}
+use Rattle.x509.specs.Crl.Lists.{entries_left}
+use Rattle.x509.specs.Formats.{spells}
+use Rattle.x509.specs.Crl.Lists.{revoked_certificate}
+use Rattle.extension_text.proofs.NamesLaws.LoopLaws.{Goes}
 use Rattle.certificate_text.specs.Lists.{IsEntry}
 use Rattle.certificate_text.proofs.revoked.write_entries.Given as goal
 

@@ -1,5 +1,5 @@
 use Rattle.std.proofs.Common.{refl}
-use Rattle.name_text.proofs.WriteLaws.{next, one}
+use Rattle.extension_text.proofs.NamesLaws.WriteLaws.{next, one}
 use Rattle.certificate_text.proofs.revoked.write_list.Goals as goal
 
 pub returns : goal.returns

@@ -1,7 +1,7 @@
 use Rattle.std.proofs.Common.{◌≡◌, ◌∙◌, ◌+◌, ◌<◌, List, ap, arith, false, get_or, length, refl, rules, sym, take, true, ℕ}
 use Rattle.std.specs.Prelude.{map}
 use Rattle.std.proofs.lemmas.List.{get_or-map, length-map, take_more_same}
-use Rattle.der_walk.specs.declared.element.Element.{Element}
+use Rattle.der_elements.specs.declared.element.Element.{Element}
 use Rattle.der_actions.specs.Differences.{compared}
 use Rattle.der_actions.proofs.diff.are_alike.Goals as goal
 

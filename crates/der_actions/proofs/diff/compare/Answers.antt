@@ -1,6 +1,6 @@
 use Rattle.std.proofs.Common.{◌≡◌, ◌≢◌, ◌∙◌, Bool, List, ap, false, subst, sym, true, ℕ}
 use Rattle.std.specs.Prelude.{map}
-use Rattle.der_walk.specs.declared.element.Element.{Element}
+use Rattle.der_elements.specs.declared.element.Element.{Element}
 use Rattle.der_actions.specs.declared.options.Options.{Options}
 use Rattle.der_actions.specs.Differences.{Compared, HasCompared, compared}
 use Rattle.der_actions.proofs.diff.compare.Goals as goal

@@ -1,4 +1,4 @@
-use Rattle.der_walk.specs.Ends.{octets_ahead}
+use Rattle.der_elements.specs.Ends.{octets_ahead}
 use Rattle.der_actions.proofs.Collecting.{HasKept}
 use Rattle.der_actions.proofs.diff.elements_of.Given as goal
 

@@ -1,6 +1,6 @@
 use Rattle.std.proofs.Common.{◌≡◌, ◌∙◌, Bool, IsTrue, List, false, inl, inr, refl, subst, true, ℕ}
 use Rattle.std.specs.Prelude.{◌↔◌}
-use Rattle.der_walk.specs.Walked.{visited_of}
+use Rattle.der_elements.specs.Walked.{visited_of}
 use Rattle.der_actions.specs.Outputs.{RefusesPart, WritesPart, extras_of, no_element, no_octets}
 use Rattle.der_actions.specs.Parts.{AreOctetsOf, AreWrittenOf}
 use Rattle.der_actions.proofs.Looking.{looked_more, looked_none}

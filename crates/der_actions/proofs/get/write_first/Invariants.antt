@@ -1,5 +1,5 @@
 use Rattle.std.proofs.Common.{◌≡◌}
-use Rattle.der_walk.specs.Ends.{octets_ahead}
+use Rattle.der_elements.specs.Ends.{octets_ahead}
 use Rattle.der_actions.proofs.Looking.{HasLooked}
 use Rattle.der_actions.proofs.get.write_first.Given as goal
 

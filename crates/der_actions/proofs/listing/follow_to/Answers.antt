@@ -1,5 +1,5 @@
 use Rattle.std.proofs.Common.{◌≡◌, [], ◌∷◌, ◌++◌, take}
-use Rattle.der_walk.specs.Walked.{visited_of}
+use Rattle.der_elements.specs.Walked.{visited_of}
 use Rattle.der_actions.specs.Paths.{path_of, step_at}
 use Rattle.der_actions.proofs.Trails.{on_ok_then, path_entered}
 use Rattle.der_actions.proofs.listing.follow_to.Goals as goal

@@ -1,6 +1,6 @@
 use Rattle.std.proofs.Common.{◌∙◌, ◌++◌, ap, subst, sym}
 use Rattle.der_base.specs.declared.rules.Rules.TheVariants.{Ber}
-use Rattle.der_check.specs.Elements.{IsElement}
+use Rattle.der_elements.specs.Check.Elements.{IsElement}
 use Rattle.der_actions.proofs.Octets.{before_rest}
 use Rattle.der_actions.proofs.part.first_element.Goals as goal
 

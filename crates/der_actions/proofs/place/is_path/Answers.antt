@@ -1,6 +1,6 @@
 use Rattle.std.proofs.Common.{◌≡◌, ◌∙◌, Bool, IsTrue, ap, false, true}
 use Rattle.std.specs.Prelude.{◌↔◌}
-use Rattle.der_walk.specs.Paths.{path_text}
+use Rattle.der_elements.specs.Paths.{path_text}
 use Rattle.der_actions.specs.Paths.{HasNamePath}
 use Rattle.der_actions.specs.Places.{IsPathTo}
 use Rattle.der_actions.proofs.NamePaths.{second_of, then_is}

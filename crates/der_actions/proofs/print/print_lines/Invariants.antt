@@ -1,4 +1,4 @@
-use Rattle.der_walk.specs.Ends.{octets_ahead}
+use Rattle.der_elements.specs.Ends.{octets_ahead}
 use Rattle.der_actions.proofs.Printing.{HasPrinted}
 use Rattle.der_actions.proofs.print.print_lines.Given as goal
 

@@ -1,7 +1,7 @@
 use Rattle.std.proofs.Common.{sym, refl, take}
 use Rattle.std.proofs.lemmas.Grind.{put_two}
-use Rattle.der_walk.specs.Paths.{further_text}
-use Rattle.der_walk.proofs.PathTexts.{further_more}
+use Rattle.der_elements.specs.Paths.{further_text}
+use Rattle.der_elements.proofs.PathTexts.{further_more}
 use Rattle.der_actions.proofs.trail.write_further.Goals as goal
 
 pub loop-step-preserved : goal.loop-step-preserved

@@ -1,6 +1,6 @@
 use Rattle.std.proofs.Common.{take}
 use Rattle.std.specs.Fmt.{HasWritten, IsPlainFormatter}
-use Rattle.der_walk.specs.Paths.{further_text}
+use Rattle.der_elements.specs.Paths.{further_text}
 use Rattle.der_actions.proofs.trail.write_further.Given as goal
 
 -- the steps so far were written

@@ -1,7 +1,7 @@
 use Rattle.std.proofs.Common.{◌≡◌, ◌≤◌, length, take, refl, sym, ap, subst, ◌∙◌, arith, rules, IsTrue, false}
 use Rattle.std.proofs.lemmas.List.{length-take-le}
 use Rattle.der_base.specs.declared.rules.Rules.TheVariants.{Der}
-use Rattle.der_check.specs.Elements.{AreElements}
+use Rattle.der_elements.specs.Check.Elements.{AreElements}
 use Rattle.der_canon.specs.Sizes.{IsSizeOf}
 use Rattle.der_canon.proofs.Causes.{refusal_of}
 use Rattle.der_canon.proofs.Copies.{take-overlay}

@@ -1,5 +1,5 @@
 use Rattle.std.proofs.Common.{◌≡◌, ◌≢◌, rules}
-use Rattle.der_walk.specs.Walked.{visited_of}
+use Rattle.der_elements.specs.Walked.{visited_of}
 use Rattle.der_canon.specs.declared.piece.Form.TheVariants.{Primitive}
 use Rattle.der_canon.specs.NoDer.{part, value, string_after, unused_after}
 use Rattle.der_canon.proofs.Forms.{none_broken}

@@ -1,6 +1,6 @@
 use Rattle.std.proofs.Common.{◌≡◌, ◌⊎◌, ◌≤◌, ◌^◌, false, [], ◌∷◌, ◌++◌, length, length-append, refl, ap, ◌∙◌, inl, inr, arith}
 use Rattle.der_canon.specs.Sizing.{most, sum}
-use Rattle.der_walk.specs.Walked.{visited_of}
+use Rattle.der_elements.specs.Walked.{visited_of}
 use Rattle.der_canon.specs.Errors.{large}
 use Rattle.der_canon.specs.Pieces.{depth_of}
 use Rattle.der_canon.specs.Sizes.{none}

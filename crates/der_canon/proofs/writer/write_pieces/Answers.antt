@@ -1,5 +1,5 @@
 use Rattle.std.proofs.Common.{◌≡◌, true, [], ◌∷◌, ◌++◌, length, length-append, inl, refl, sym, subst, ◌∙◌, arith}
-use Rattle.der_walk.specs.Walked.{visited_of}
+use Rattle.der_elements.specs.Walked.{visited_of}
 use Rattle.der_canon.specs.Contents.{KeepsIn, no_contents}
 use Rattle.der_canon.specs.Pieces.{has_header}
 use Rattle.der_canon.specs.Strings.{none, last}

@@ -1,5 +1,5 @@
 use Rattle.std.proofs.Common.{◌≡◌, ◌+◌, ◌-◌, List, length}
-use Rattle.der_walk.specs.Visits.{Visited}
+use Rattle.der_elements.specs.Visits.{Visited}
 use Rattle.der_canon.specs.Contents.{Contents, KeepsIn, WritesAll, no_contents}
 use Rattle.der_canon.specs.Errors.{HasRead}
 use Rattle.der_canon.specs.Pieces.{depth_of}

@@ -1,5 +1,5 @@
 use Rattle.std.proofs.Common.{◌≡◌, ◌∙◌, OnOk, ap, subst, take}
-use Rattle.show_json.specs.Objects.{shown_text}
+use Rattle.text_json.specs.Shown.Objects.{shown_text}
 use Rattle.der_cli.specs.Shown.{AddsObject, source_of, words_object}
 use Rattle.der_cli.proofs.shown_object.write_shown.Goals as goal
 

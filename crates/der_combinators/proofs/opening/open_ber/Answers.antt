@@ -1,5 +1,5 @@
 use Rattle.der_base.specs.Containers.{too_short}
-use Rattle.der_laws.proofs.Containers.BerContainers.{converted}
+use Rattle.der_values.proofs.LawsLaws.Containers.BerContainers.{converted}
 use Rattle.der_combinators.proofs.opening.open_ber.Goals as goal
 
 pub returns-in-Some-clause-err : goal.returns-in-Some-clause-err

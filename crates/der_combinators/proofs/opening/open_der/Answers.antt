@@ -1,6 +1,6 @@
 use Rattle.std.proofs.Common.{sym, ◌∙◌}
 use Rattle.der_base.specs.Containers.{too_short}
-use Rattle.der_laws.proofs.Containers.DerContainers.{short_der_behind, converted_der}
+use Rattle.der_values.proofs.LawsLaws.Containers.DerContainers.{short_der_behind, converted_der}
 use Rattle.der_combinators.proofs.opening.open_der.Goals as goal
 
 pub returns-in-Err-clause-err : goal.returns-in-Err-clause-err

@@ -1,6 +1,6 @@
 use Rattle.std.proofs.Common.{◌≡◌, sym, ◌∙◌, arith}
 use Rattle.der_base.specs.declared.header.Length.TheVariants.{Definite}
-use Rattle.der_laws.proofs.Containers.BerContainers.{short_behind}
+use Rattle.der_values.proofs.LawsLaws.Containers.BerContainers.{short_behind}
 use Rattle.der_base.proofs.Headers.BerHeaders.{ber_header_read}
 use Rattle.der_combinators.proofs.opening.short_content.Goals.{in_default-length-via-in-Definite+else-content-n, in_default-length-via-in_default-length}
 use Rattle.der_combinators.proofs.opening.short_content.Goals as goal

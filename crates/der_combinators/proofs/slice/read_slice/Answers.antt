@@ -2,7 +2,7 @@ use Rattle.std.proofs.Common.{inr}
 use Rattle.std.proofs.lemmas.Result.{err_from_is_err_and}
 use Rattle.der_base.specs.Containers.{unopened}
 use Rattle.der_base.specs.Header.{class_of, is_constructed, number_of}
-use Rattle.der_laws.proofs.Containers.ContainerLaws.{opens_element}
+use Rattle.der_values.proofs.LawsLaws.Containers.ContainerLaws.{opens_element}
 use Rattle.der_combinators.proofs.Slices.{opened, unopened_slice}
 use Rattle.der_combinators.proofs.slice.read_slice.Goals as goal
 

@@ -1,5 +1,5 @@
 use Rattle.std.proofs.Common.{refl}
-use Rattle.der_laws.proofs.Containers.OpenedLaws.{opened_run}
+use Rattle.der_values.proofs.LawsLaws.Containers.OpenedLaws.{opened_run}
 use Rattle.der_combinators.proofs.tagged.parse_ber_explicit_optional.Goals as goal
 
 pub returns : goal.returns

@@ -1,4 +1,4 @@
-use Rattle.der_laws.proofs.Containers.OpenedLaws.{opened_run}
+use Rattle.der_values.proofs.LawsLaws.Containers.OpenedLaws.{opened_run}
 use Rattle.der_combinators.proofs.tagged.parse_ber_implicit.Goals as goal
 
 pub returns : goal.returns

@@ -2,7 +2,7 @@ use Rattle.std.proofs.Common.{rules}
 use Rattle.std.proofs.lemmas.Result.{err_from_is_err_and}
 use Rattle.der_cursor.specs.Formats.{BitString, Implicit}
 use Rattle.der_extensions.specs.Extensions.{IsShortest}
-use Rattle.der_x509.specs.Certificates.{bits_of}
+use Rattle.x509.specs.Certificates.{bits_of}
 use Rattle.der_extensions.proofs.PointLaws.{limited_absent, limited_refused, limited_there, limited_unread}
 use Rattle.der_extensions.proofs.distribution_points.read_reasons.Goals as goal
 

@@ -1,6 +1,6 @@
-use Rattle.der_x509.specs.Certificates.{extension}
-use Rattle.der_x509.specs.Lists.{extensions_left}
-use Rattle.der_x509.proofs.WalkLaws.{IsStill}
+use Rattle.x509.specs.Certificates.{extension}
+use Rattle.x509.specs.Lists.{extensions_left}
+use Rattle.x509.proofs.WalkLaws.{IsStill}
 use Rattle.der_extensions.specs.Unknown.{IsUnknownCritical}
 use Rattle.der_extensions.proofs.unknown.has_unknown_critical.Given as goal
 

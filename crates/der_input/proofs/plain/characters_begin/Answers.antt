@@ -1,16 +1,32 @@
-use Rattle.std.proofs.Common.{◌≡◌, ◌∙◌, Option, Some, None, refl, sym, ap, length, arith, rules, tests, unwrap_or}
-use Rattle.std.specs.Option.{option_map}
-use Rattle.std.proofs.lemmas.Iterator.{YieldsList-from_range}
-use Rattle.std.proofs.lemmas.Iterator.Search.{find_from_yields_List}
-use Rattle.der_input.specs.Plain.{begins_characters}
+use Rattle.std.proofs.Common.{◌≡◌, ◌∙◌, ◌+◌, ◌-◌, ◌<◌, ap, arith, length, sym}
+use Rattle.std.specs.Prelude.{count_by}
+use Rattle.std.specs.Char.{is_ascii_hexdigit}
+use Rattle.std.proofs.Math.Seq.{drop-length, take-length}
+use Rattle.der_input.specs.Plain.{begins_characters, without_margin}
+use Rattle.der_input.proofs.Dumps.{first_from, first_none, later}
 use Rattle.der_input.proofs.plain.characters_begin.Goals as goal
 
-itself : {A : Type 0} (r : Option A) → option_map (λ x. x) r ≡ r
-itself None = refl
-itself (Some x) = refl
-
-pub returns : goal.returns
-returns c =
+pub octets-init : goal.octets-init
+octets-init c =
     let line = c.args.line.now in
-    let found = find_from_yields_List (begins_characters line) _ _ c.find.result c.find.ensures.ran (YieldsList-from_range 0 (length line) (length line) (cc) (omega arith)) (λ x b q k. search (rules, tests)) in
-    c.unwrap_or.ensures ∙ ap (λ r. unwrap_or r (length line)) (sym (itself c.find.result) ∙ found)
+    record {
+      within = omega arith;
+      digits = c.digits_in-digits.ensures ∙ sym (ap (count_by is_ascii_hexdigit) (take-length line));
+      characters = sym (ap (λ w. length (without_margin w)) (drop-length line));
+      begin = sym (first_none (begins_characters line) (length line));
+    }
+
+pub octets-preserved : goal.octets-preserved
+octets-preserved c =
+    let line = c.args.line.now in
+    let k = c.octets.offset - 1 in
+    let small : c.octets.offset - 1 < length line = omega (arith, c.octets.invariant.within, c.octets-test.true) in
+    let next : c.octets.offset ≡ c.octets.offset - 1 + 1 = omega (arith, c.octets-test.true) in
+    let none = sym c.begins_characters.ensures ∙ c.if-begins_characters.false in
+    record {
+      within = omega (arith, small);
+      digits = c.digits_before-digits.ensures;
+      characters = c.behind_margin-characters.ensures;
+      begin = c.octets.invariant.begin ∙ ap (λ m. first_from (begins_characters line) m (length line)) next
+          ∙ sym (later (begins_characters line) k (length line) small none);
+    }

@@ -1,4 +1,3 @@
-use Rattle.std.proofs.Common.{refl}
 use Rattle.der_input.proofs.Searches.{occurs_by}
 use Rattle.der_input.proofs.search.occurs_at.Goals as goal
 

@@ -1,5 +1,5 @@
 use Rattle.std.proofs.Common.{arith}
-use Rattle.der_octets.proofs.Room.{puts_tail}
+use Rattle.der_values.proofs.OctetsLaws.Room.{puts_tail}
 use Rattle.der_object.proofs.hex.send_some.Goals as goal
 
 pub returns : goal.returns

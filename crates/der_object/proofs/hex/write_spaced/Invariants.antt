@@ -1,6 +1,6 @@
 use Rattle.std.proofs.Common.{drop}
 use Rattle.der_base.specs.Pretty.{spaced_hex}
-use Rattle.der_octets.specs.Room.{PutsBefore}
+use Rattle.der_values.specs.Octets.Room.{PutsBefore}
 use Rattle.der_object.proofs.hex.write_spaced.Given as goal
 
 -- the octets from i on are written

@@ -5,7 +5,7 @@ use Rattle.der_base.specs.Octets.{identifier, shortest_length}
 use Rattle.der_object.specs.declared.object.BerObjectContent.{the_lemmas}
 use Rattle.der_object.specs.View.{tree, trees, content_tree}
 use Rattle.der_object.proofs.Trees.{sequence_tree, set_tree, plain_encoding, encoding_length, item_room}
-use Rattle.der_octets.proofs.Room.{puts_both}
+use Rattle.der_values.proofs.OctetsLaws.Room.{puts_both}
 use Rattle.der_object.proofs.serialize.+serialize.Goals as goal
 
 pub write_content-write_items-requires : goal.write_content-write_items-requires

@@ -1,7 +1,7 @@
 use Rattle.std.proofs.Common.{drop}
 use Rattle.der_base.specs.Encoding.{encodings}
 use Rattle.der_object.specs.View.{trees}
-use Rattle.der_octets.specs.Room.{PutsBefore}
+use Rattle.der_values.specs.Octets.Room.{PutsBefore}
 use Rattle.der_object.proofs.serialize.+serialize.Given as goal
 
 -- the items from i on are written

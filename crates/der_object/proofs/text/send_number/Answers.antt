@@ -1,6 +1,6 @@
 use Rattle.std.proofs.Common.{arith}
-use Rattle.der_octets.proofs.Digits.{decimal_room}
-use Rattle.der_octets.proofs.Room.{puts_tail}
+use Rattle.der_values.proofs.OctetsLaws.Digits.{decimal_room}
+use Rattle.der_values.proofs.OctetsLaws.Room.{puts_tail}
 use Rattle.der_object.proofs.text.send_number.Goals as goal
 
 pub write_decimal-begin-requires-clause-room : goal.write_decimal-begin-requires-clause-room

@@ -1,5 +1,5 @@
 use Rattle.std.proofs.Common.{◌≡◌, ◌++◌}
-use Rattle.der_walk.specs.Walked.{visited_of}
+use Rattle.der_elements.specs.Walked.{visited_of}
 use Rattle.der_print.specs.Cuts.{cut}
 use Rattle.der_print.specs.Lines.{bold, dim, field_text, front_text, left_of_margin, limit_of, margin_text, plain, type_part}
 use Rattle.der_print.specs.Texts.{octets_in}

@@ -1,6 +1,6 @@
 use Rattle.std.proofs.Common.{◌∷◌, ◌++◌, ◌-◌, ◌∙◌, ap, append_assoc, arith, codes, decimal, drop, take}
 use Rattle.der_base.specs.Pretty.{spaces}
-use Rattle.der_walk.specs.Walked.{visited_of}
+use Rattle.der_elements.specs.Walked.{visited_of}
 use Rattle.der_print.specs.Lines.{at_left, at_right, length_text, margin_text, place_text}
 use Rattle.der_print.specs.Parts.{AddsPart}
 use Rattle.der_print.specs.Texts.{octets_in}

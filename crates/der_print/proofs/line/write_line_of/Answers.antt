@@ -1,5 +1,5 @@
 use Rattle.std.proofs.Common.{◌++◌, codes, ap, subst, ◌∙◌}
-use Rattle.der_walk.specs.Walked.{visited_of}
+use Rattle.der_elements.specs.Walked.{visited_of}
 use Rattle.der_print.specs.Lines.{IsEnding, front_text}
 use Rattle.der_print.specs.Names.{table_of}
 use Rattle.der_print.specs.Texts.{content_of}

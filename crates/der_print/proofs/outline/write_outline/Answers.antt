@@ -1,6 +1,6 @@
 use Rattle.std.proofs.Common.{◌++◌, codes, ap, subst, ◌∙◌}
 use Rattle.std.specs.Io.KnownBytes.{Appends}
-use Rattle.der_walk.specs.Walked.{visited_of}
+use Rattle.der_elements.specs.Walked.{visited_of}
 use Rattle.der_print.specs.Cuts.{cut}
 use Rattle.der_print.specs.Lines.{front_text, limit_of}
 use Rattle.der_print.proofs.FrontLaws.{same_part}

@@ -1,6 +1,6 @@
 use Rattle.std.proofs.Common.{true, false, Option, [], ◌∷◌, ◌++◌, sym, ap, ◌∙◌}
 use Rattle.std.specs.Option.{is_some}
-use Rattle.der_walk.specs.Walked.{visited_of}
+use Rattle.der_elements.specs.Walked.{visited_of}
 use Rattle.der_schema.specs.declared.matching.Name.{Name}
 use Rattle.der_schema.specs.Known.{all_extras}
 use Rattle.der_schema.specs.Meaning.{root_of}

@@ -1,7 +1,7 @@
 use Rattle.std.proofs.Common.{List}
-use Rattle.der_walk.specs.Ends.{octets_ahead}
-use Rattle.der_walk.specs.Visits.{Visited}
-use Rattle.der_walk.specs.Walked.{HasVisited}
+use Rattle.der_elements.specs.Ends.{octets_ahead}
+use Rattle.der_elements.specs.Visits.{Visited}
+use Rattle.der_elements.specs.Walked.{HasVisited}
 use Rattle.der_schema.specs.Known.{all_extras}
 use Rattle.der_schema.specs.Meaning.{root_of}
 use Rattle.der_schema.specs.Named.{HasNamed}

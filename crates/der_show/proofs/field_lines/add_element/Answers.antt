@@ -1,6 +1,6 @@
 use Rattle.std.proofs.Common.{refl}
 use Rattle.der_print.proofs.PartLaws.{ok_then}
-use Rattle.der_walk.specs.Walked.{visited_of}
+use Rattle.der_elements.specs.Walked.{visited_of}
 use Rattle.der_show.specs.declared.field_lines.Written.{Written}
 use Rattle.der_show.specs.FieldLines.{AddsLine}
 use Rattle.der_show.specs.Leaves.{leaf_line, words_text}

@@ -3,7 +3,7 @@ use Rattle.der_base.specs.declared.rules.Rules.TheVariants.{Ber}
 use Rattle.der_schema.specs.Known.{all_extras}
 use Rattle.der_schema.specs.Meaning.{root_of}
 use Rattle.der_schema.proofs.OfType.{no_elements}
-use Rattle.der_fields.specs.Secrets.{is_secret}
+use Rattle.text_json.specs.Fields.Secrets.{is_secret}
 use Rattle.der_schema.specs.Steps.{label_of}
 use Rattle.der_show.proofs.LeafLaws.{shown_more, shown_none}
 use Rattle.der_show.proofs.field_lines.with_lines.Goals as goal

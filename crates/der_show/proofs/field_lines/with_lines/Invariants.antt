@@ -1,4 +1,4 @@
-use Rattle.der_walk.specs.Ends.{octets_ahead}
+use Rattle.der_elements.specs.Ends.{octets_ahead}
 use Rattle.der_show.proofs.LeafLaws.{HasShown}
 use Rattle.der_show.proofs.field_lines.with_lines.Given as goal
 

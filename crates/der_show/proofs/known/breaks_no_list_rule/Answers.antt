@@ -1,5 +1,5 @@
-use Rattle.crl_reader.specs.Lists.{certificate_list_of}
-use Rattle.x509_crl_rules.specs.declared.revoked.TheConstants.{MUST_LIST_RULES}
+use Rattle.x509.specs.Crl.Lists.{certificate_list_of}
+use Rattle.x509_rules.specs.declared.crl.revoked.TheConstants.{MUST_LIST_RULES}
 use Rattle.der_show.proofs.RuleLaws.{none_broken_of_list}
 use Rattle.der_show.proofs.known.breaks_no_list_rule.Goals as goal
 

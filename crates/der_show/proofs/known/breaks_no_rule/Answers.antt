@@ -1,4 +1,4 @@
-use Rattle.der_x509.specs.Certificates.{certificate_of}
+use Rattle.x509.specs.Certificates.{certificate_of}
 use Rattle.x509_rules.specs.declared.certificate.TheConstants.{MUST_RULES}
 use Rattle.der_show.proofs.RuleLaws.{none_broken}
 use Rattle.der_show.proofs.known.breaks_no_rule.Goals as goal

@@ -1,4 +1,4 @@
-use Rattle.der_walk.specs.Ends.{octets_ahead}
+use Rattle.der_elements.specs.Ends.{octets_ahead}
 use Rattle.der_schema.specs.Meaning.{root_of}
 use Rattle.der_show.specs.Around.{around_of}
 use Rattle.der_show.proofs.PlaceLaws.{HasLooked}

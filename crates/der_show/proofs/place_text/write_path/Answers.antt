@@ -1,5 +1,5 @@
 use Rattle.std.proofs.Common.{refl}
-use Rattle.name_text.proofs.WriteLaws.{next, nothing, one}
+use Rattle.extension_text.proofs.NamesLaws.WriteLaws.{next, nothing, one}
 use Rattle.der_show.proofs.place_text.write_path.Goals as goal
 
 pub returns-in-Some : goal.returns-in-Some

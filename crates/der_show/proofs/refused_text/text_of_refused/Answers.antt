@@ -1,6 +1,6 @@
 use Rattle.std.proofs.Common.{inl, inr, refl, rules}
 use Rattle.std.proofs.lemmas.Result.{IfOk-weaker}
-use Rattle.partial_certificate.specs.Partials.{partial_of}
+use Rattle.x509.specs.Partial.Partials.{partial_of}
 use Rattle.der_show.proofs.refused_text.text_of_refused.Goals as goal
 
 pub returns-then-not-is_of_certificate : goal.returns-then-not-is_of_certificate

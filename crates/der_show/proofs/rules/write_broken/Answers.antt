@@ -1,6 +1,6 @@
 use Rattle.std.proofs.Common.{[], ◌++◌, ◌∙◌, ap, refl}
 use Rattle.std.proofs.Output.{has_written_append, writes_in_calls_nil}
-use Rattle.der_x509.specs.Certificates.{certificate_of}
+use Rattle.x509.specs.Certificates.{certificate_of}
 use Rattle.x509_rules.specs.Rules.{Breaks}
 use Rattle.x509_rules.specs.Broken.{certificate_in, rules_left}
 use Rattle.der_show.proofs.BrokenLines.{rules_end, rules_on, rules_start}

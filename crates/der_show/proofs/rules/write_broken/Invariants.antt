@@ -1,6 +1,6 @@
 use Rattle.std.proofs.Common.{◌≡◌, List, ℕ}
 use Rattle.std.specs.Fmt.{HasWritten, IsPlainFormatter}
-use Rattle.der_x509.specs.Certificates.{certificate_of}
+use Rattle.x509.specs.Certificates.{certificate_of}
 use Rattle.x509_rules.specs.Broken.{certificate_in, rules_left}
 use Rattle.x509_rules.specs.Rules.{Breaks}
 use Rattle.der_show.proofs.BrokenLines.{RulesGo}

@@ -1,7 +1,7 @@
 use Rattle.std.proofs.Common.{[], ◌++◌, ◌∙◌, ap, refl}
 use Rattle.std.proofs.Output.{has_written_append, writes_in_calls_nil}
-use Rattle.crl_reader.specs.Lists.{certificate_list_of}
-use Rattle.x509_crl_rules.specs.ListRules.{BreaksList, list_in, list_rules_left}
+use Rattle.x509.specs.Crl.Lists.{certificate_list_of}
+use Rattle.x509_rules.specs.Crl.ListRules.{BreaksList, list_in, list_rules_left}
 use Rattle.der_show.proofs.BrokenLines.{rules_end, rules_on, rules_start}
 use Rattle.der_show.proofs.rules.write_broken_of_list.Goals as goal
 

@@ -1,8 +1,8 @@
 use Rattle.std.proofs.Common.{◌≡◌, List, ℕ}
 use Rattle.std.specs.Fmt.{HasWritten, IsPlainFormatter}
-use Rattle.crl_reader.specs.Lists.{certificate_list_of}
-use Rattle.x509_crl_rules.specs.ListRules.{list_in, list_rules_left}
-use Rattle.x509_crl_rules.specs.ListRules.{BreaksList}
+use Rattle.x509.specs.Crl.Lists.{certificate_list_of}
+use Rattle.x509_rules.specs.Crl.ListRules.{list_in, list_rules_left}
+use Rattle.x509_rules.specs.Crl.ListRules.{BreaksList}
 use Rattle.der_show.proofs.BrokenLines.{RulesGo}
 use Rattle.der_show.proofs.rules.write_broken_of_list.Given as goal
 

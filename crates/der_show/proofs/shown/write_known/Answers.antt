@@ -1,5 +1,5 @@
 use Rattle.std.proofs.Common.{refl}
-use Rattle.name_text.proofs.WriteLaws.{next}
+use Rattle.extension_text.proofs.NamesLaws.WriteLaws.{next}
 use Rattle.der_show.proofs.shown.write_known.Goals as goal
 
 pub returns-in_ok-write_certificate-in-Certificate : goal.returns-in_ok-write_certificate-in-Certificate

@@ -1,6 +1,6 @@
 use Rattle.std.proofs.Common.{ℕ, ap, refl, sym}
-use Rattle.der_x509.specs.Formats.{FieldFault}
-use Rattle.der_x509.specs.Readers.{field_fault as fault}
+use Rattle.x509.specs.Formats.{FieldFault}
+use Rattle.x509.specs.Readers.{field_fault as fault}
 use Rattle.der_show.proofs.unread.why_no_certificate.Goals as goal
 
 offset_in : FieldFault → ℕ

@@ -1,5 +1,5 @@
 use Rattle.std.proofs.Common.{ℕ, ap, refl, sym}
-use Rattle.crl_reader.specs.Lists.{FieldFault, field_fault as fault}
+use Rattle.x509.specs.Crl.Lists.{FieldFault, field_fault as fault}
 use Rattle.der_show.proofs.unread.why_no_list.Goals as goal
 
 offset_in : FieldFault → ℕ

@@ -1,5 +1,5 @@
 use Rattle.std.proofs.Common.{ℕ, ap, refl, sym}
-use Rattle.der_request.specs.Requests.{FieldFault, field_fault as fault}
+use Rattle.x509_keys.specs.Request.Requests.{FieldFault, field_fault as fault}
 use Rattle.der_show.proofs.unread.why_no_request.Goals as goal
 
 offset_in : FieldFault → ℕ

@@ -7,7 +7,7 @@ use Rattle.der_show.specs.Fields.{IsByFields}
 use Rattle.der_show.specs.Messages.{IsMessage}
 use Rattle.der_show.proofs.words.other_words.Goals as goal
 
-by_fields : (now : Option ℕ) (types : KnownTypes) (i : List ℕ) (words : Option Words) → IsMessage i None
+by_fields : (now : Option ℕ) (types : KnownTypes) (i : List ℕ) (words : Option Words) → IsMessage types i None
     → IsByFields now types i words → AreOtherWords now types i words
 by_fields now types i (Some w) none h = inr (none, h)
 by_fields now types i None none h = (none, h)
@@ -16,7 +16,7 @@ pub returns-in-Ok-Some : goal.returns-in-Ok-Some
 returns-in-Ok-Some c =
     let shown = rw c.in-Ok-Some.field-0-is at c.in-Ok-Some.ensures in
     let made = c.words_alone.ensures in
-    inl (subst (λ t. IsMessage c.args.octets.now (Some t)) (sym made.text) shown, made.start, made.rules)
+    inl (subst (λ t. IsMessage c.args.types.now c.args.octets.now (Some t)) (sym made.text) shown, made.start, made.rules)
 
 pub returns-in-Ok-None : goal.returns-in-Ok-None
 returns-in-Ok-None c =

@@ -1,6 +1,6 @@
 use Rattle.std.proofs.Common.{length, arith, ap}
 use Rattle.std.proofs.lemmas.Bool.Decides.{nat_tests}
-use Rattle.der_laws.proofs.Octets.LastBits.{unused_from_last, last_from_unused}
+use Rattle.der_values.proofs.LawsLaws.Octets.LastBits.{unused_from_last, last_from_unused}
 use Rattle.der_values.proofs.UnusedBits.{small_power}
 use Rattle.der_values.proofs.bits.are_last_bits_zero.Goals as goal
 

@@ -1,9 +1,9 @@
 use Rattle.std.proofs.Common.{List, ℕ}
 use Rattle.std.specs.Fmt.{HasWritten, IsPlainFormatter}
-use Rattle.der_x509.specs.Lists.{extensions_left}
-use Rattle.der_x509.specs.Formats.{spells}
-use Rattle.der_x509.specs.Certificates.{extension}
-use Rattle.name_text.proofs.LoopLaws.{Goes}
+use Rattle.x509.specs.Lists.{extensions_left}
+use Rattle.x509.specs.Formats.{spells}
+use Rattle.x509.specs.Certificates.{extension}
+use Rattle.extension_text.proofs.NamesLaws.LoopLaws.{Goes}
 use Rattle.extension_text.specs.Extensions.{IsExtension}
 use Rattle.extension_text.proofs.extension.write_each.Given as goal
 

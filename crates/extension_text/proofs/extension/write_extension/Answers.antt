@@ -1,5 +1,5 @@
 use Rattle.std.proofs.Common.{refl}
-use Rattle.name_text.proofs.WriteLaws.{next, restated}
+use Rattle.extension_text.proofs.NamesLaws.WriteLaws.{next, restated}
 use Rattle.extension_text.proofs.extension.write_extension.Goals as goal
 
 pub returns : goal.returns

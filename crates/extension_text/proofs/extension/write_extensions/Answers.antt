@@ -1,7 +1,7 @@
 use Rattle.std.proofs.Common.{◌<◌, arith, inl, inr, length, refl, rules}
 use Rattle.std.proofs.lemmas.Bool.Decides.{nat_tests}
 use Rattle.std.proofs.lemmas.List.{nil_from_length}
-use Rattle.name_text.proofs.WriteLaws.{next, nothing, one, restated}
+use Rattle.extension_text.proofs.NamesLaws.WriteLaws.{next, nothing, one, restated}
 use Rattle.extension_text.proofs.ItemLaws.{not_nil}
 use Rattle.extension_text.proofs.extension.write_extensions.Goals as goal
 

@@ -1,5 +1,5 @@
 use Rattle.std.proofs.Common.{◌++◌, ap, codes, refl, ◌∙◌}
-use Rattle.name_text.proofs.WriteLaws.{next, one, restated}
+use Rattle.extension_text.proofs.NamesLaws.WriteLaws.{next, one, restated}
 use Rattle.extension_text.proofs.extension.write_heading.Goals as goal
 
 pub returns : goal.returns

@@ -3,7 +3,7 @@ use Rattle.std.specs.Fmt.{HasWritten, IsPlainFormatter}
 use Rattle.der_extensions.specs.Lists.{items_left}
 use Rattle.der_base.specs.declared.rules.Rules.TheVariants.{Der}
 use Rattle.der_extensions.specs.GeneralNames.{GeneralName}
-use Rattle.name_text.proofs.LoopLaws.{Goes}
+use Rattle.extension_text.proofs.NamesLaws.LoopLaws.{Goes}
 use Rattle.extension_text.specs.GeneralNames.{IsGeneralName}
 use Rattle.extension_text.proofs.general_name.write_general_names.Given as goal
 

@@ -1,7 +1,7 @@
 use Rattle.std.proofs.Common.{[], ◌++◌, ap, refl, ◌∙◌}
 use Rattle.std.proofs.Output.{has_written_append, writes_in_calls_nil}
 use Rattle.der_extensions.specs.Lists.{items_left}
-use Rattle.name_text.proofs.LoopLaws.{goes_end, goes_on, goes_start}
+use Rattle.extension_text.proofs.NamesLaws.LoopLaws.{goes_end, goes_on, goes_start}
 use Rattle.extension_text.proofs.items.write_items.Goals as goal
 
 pub loop-item-init : goal.loop-item-init

@@ -2,8 +2,8 @@ use Rattle.std.proofs.Common.{List, ℕ}
 use Rattle.std.specs.Fmt.{HasWritten, IsPlainFormatter}
 use Rattle.der_base.specs.declared.rules.Rules.TheVariants.{Der}
 use Rattle.der_extensions.specs.Lists.{items_left}
-use Rattle.name_text.specs.Pieces.{IsTextOf}
-use Rattle.name_text.proofs.LoopLaws.{Goes}
+use Rattle.extension_text.specs.Names.Pieces.{IsTextOf}
+use Rattle.extension_text.proofs.NamesLaws.LoopLaws.{Goes}
 use Rattle.extension_text.proofs.items.write_items.Given as goal
 
 -- what was sent goes before the texts of the values that are left

@@ -1,5 +1,5 @@
 use Rattle.std.proofs.Common.{refl}
-use Rattle.name_text.proofs.WriteLaws.{next, one, restated}
+use Rattle.extension_text.proofs.NamesLaws.WriteLaws.{next, one, restated}
 use Rattle.extension_text.proofs.ItemLaws.{of_values}
 use Rattle.extension_text.proofs.lists.write_optional_subtrees.Goals as goal
 

@@ -1,6 +1,6 @@
 use Rattle.std.proofs.Common.{inl, inr}
-use Rattle.name_text.proofs.WriteLaws.{one, restated}
-use Rattle.extension_text.specs.Notices.{notice_of}
+use Rattle.extension_text.proofs.NamesLaws.WriteLaws.{one, restated}
+use Rattle.der_extensions.specs.Notices.{notice_of}
 use Rattle.extension_text.proofs.notice.write_notice_detail.Goals as goal
 
 pub returns-in-Ok : goal.returns-in-Ok

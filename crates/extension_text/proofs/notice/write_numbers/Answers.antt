@@ -3,8 +3,8 @@ use Rattle.std.proofs.Output.{has_written_append, writes_in_calls_nil}
 use Rattle.der_base.specs.declared.rules.Rules.TheVariants.{Der}
 use Rattle.der_cursor.specs.Formats.{Integer}
 use Rattle.der_cursor.proofs.FormatLaws.{required_takes}
-use Rattle.name_text.proofs.LoopLaws.{goes_end, goes_on, goes_start}
-use Rattle.name_text.proofs.WriteLaws.{one}
+use Rattle.extension_text.proofs.NamesLaws.LoopLaws.{goes_end, goes_on, goes_start}
+use Rattle.extension_text.proofs.NamesLaws.WriteLaws.{one}
 use Rattle.extension_text.proofs.notice.write_numbers.Goals as goal
 
 pub loop-number-init : goal.loop-number-init

@@ -2,7 +2,7 @@ use Rattle.std.proofs.Common.{List, ℕ, length}
 use Rattle.std.specs.Fmt.{HasWritten, IsPlainFormatter}
 use Rattle.der_base.specs.declared.rules.Rules.TheVariants.{Der}
 use Rattle.der_cursor.specs.Formats.{Integer, Required}
-use Rattle.name_text.proofs.LoopLaws.{Goes}
+use Rattle.extension_text.proofs.NamesLaws.LoopLaws.{Goes}
 use Rattle.extension_text.specs.Notices.{IsNumber}
 use Rattle.extension_text.proofs.notice.write_numbers.Given as goal
 

@@ -1,4 +1,4 @@
-use Rattle.name_text.proofs.WriteLaws.{restated}
+use Rattle.extension_text.proofs.NamesLaws.WriteLaws.{restated}
 use Rattle.extension_text.proofs.ItemLaws.{of_values}
 use Rattle.extension_text.proofs.policies.write_optional_qualifiers.Goals as goal
 

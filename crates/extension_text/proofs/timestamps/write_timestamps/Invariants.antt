@@ -2,8 +2,8 @@ use Rattle.std.proofs.Common.{List, ℕ}
 use Rattle.std.specs.Fmt.{HasWritten, IsPlainFormatter}
 use Rattle.der_base.specs.declared.rules.Rules.TheVariants.{Der}
 use Rattle.der_extensions.specs.WebExtensions.{Vector, timestamps_left}
-use Rattle.name_text.specs.Pieces.{Exactly}
-use Rattle.name_text.proofs.LoopLaws.{Goes}
+use Rattle.extension_text.specs.Names.Pieces.{Exactly}
+use Rattle.extension_text.proofs.NamesLaws.LoopLaws.{Goes}
 use Rattle.extension_text.specs.Timestamps.{timestamp_text}
 use Rattle.extension_text.proofs.timestamps.write_timestamps.Given as goal
 

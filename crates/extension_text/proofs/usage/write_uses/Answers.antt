@@ -1,5 +1,5 @@
 use Rattle.std.proofs.Common.{refl}
-use Rattle.name_text.proofs.WriteLaws.{along}
+use Rattle.extension_text.proofs.NamesLaws.WriteLaws.{along}
 use Rattle.extension_text.proofs.usage.write_uses.Goals as goal
 
 pub returns : goal.returns

@@ -1,5 +1,5 @@
 use Rattle.std.proofs.Common.{Err, Ok}
-use Rattle.name_text.proofs.WriteLaws.{restated}
+use Rattle.extension_text.proofs.NamesLaws.WriteLaws.{restated}
 use Rattle.extension_text.proofs.UnreadLaws.{unread_text}
 use Rattle.extension_text.proofs.value.write_extension_value.Goals as goal
 

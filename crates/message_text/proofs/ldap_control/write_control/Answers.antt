@@ -1,6 +1,6 @@
 use Rattle.std.proofs.Common.{◌≡◌, ◌++◌, ◌∙◌, List, ℕ, ap, codes}
 use Rattle.std.proofs.Output.{has_written_of_eq}
-use Rattle.ldap_reader.specs.declared.message.Control.{Control}
+use Rattle.messages.specs.declared.ldap.message.Control.{Control}
 use Rattle.message_text.specs.Ldap.{control_text, control_value_text, flag_name, is_critical}
 use Rattle.message_text.specs.Words.{field_text}
 use Rattle.message_text.proofs.Texts.{five}

@@ -1,7 +1,7 @@
 use Rattle.std.proofs.Common.{◌≡◌, ◌++◌, List, Option, ℕ, codes, refl}
 use Rattle.std.proofs.Output.{has_written_append, has_written_of_eq}
 use Rattle.der_base.specs.Names.{name_at}
-use Rattle.ldap_reader.specs.declared.message.Search.{Search}
+use Rattle.messages.specs.declared.ldap.message.Search.{Search}
 use Rattle.message_text.specs.Ldap.{alias_names, limits_text, range_text, scope_names}
 use Rattle.message_text.specs.Words.{field_text, number_text}
 use Rattle.message_text.proofs.Texts.{three_one}

@@ -1,7 +1,7 @@
 use Rattle.std.proofs.Common.{◌≡◌, ◌++◌, List, ℕ, Bor, codes, refl}
 use Rattle.std.proofs.Output.{has_written_append, has_written_of_eq}
-use Rattle.ldap_reader.specs.declared.filter.FilterPart.{FilterPart}
-use Rattle.ldap_reader.specs.declared.message.Search.{Search}
+use Rattle.messages.specs.declared.ldap.filter.FilterPart.{FilterPart}
+use Rattle.messages.specs.declared.ldap.message.Search.{Search}
 use Rattle.message_text.specs.Ldap.{filter_line, range_text, search_text}
 use Rattle.message_text.specs.Words.{fields_text}
 use Rattle.message_text.proofs.Texts.{three}

@@ -1,7 +1,7 @@
 use Rattle.std.proofs.Common.{◌≡◌}
-use Rattle.der_x509.specs.Certificates.{attribute}
-use Rattle.der_x509.specs.Lists.{attributes_left}
-use Rattle.der_x509.proofs.WalkLaws.{IsStill}
+use Rattle.x509.specs.Certificates.{attribute}
+use Rattle.x509.specs.Lists.{attributes_left}
+use Rattle.x509.proofs.WalkLaws.{IsStill}
 use Rattle.x509_rule_facts.specs.Attributes.{kind_octets}
 use Rattle.x509_rule_facts.proofs.attributes.has_attribute.Given as goal
 

@@ -1,7 +1,7 @@
 use Rattle.std.proofs.Common.{refl}
 use Rattle.std.proofs.lemmas.Bool.{false≢true}
-use Rattle.der_x509.specs.Formats.{set}
-use Rattle.der_x509.proofs.WalkLaws.{found_here, not_found, still_on}
+use Rattle.x509.specs.Formats.{set}
+use Rattle.x509.proofs.WalkLaws.{found_here, not_found, still_on}
 use Rattle.x509_rule_facts.proofs.attributes.has_mistyped.Goals as goal
 
 pub returns-then-has_mistyped_attribute : goal.returns-then-has_mistyped_attribute

@@ -1,7 +1,7 @@
-use Rattle.der_x509.specs.Certificates.{attribute}
-use Rattle.der_x509.specs.Formats.{set}
-use Rattle.der_x509.specs.Lists.{Somewhere, names_left}
-use Rattle.der_x509.proofs.WalkLaws.{IsStill}
+use Rattle.x509.specs.Certificates.{attribute}
+use Rattle.x509.specs.Formats.{set}
+use Rattle.x509.specs.Lists.{Somewhere, names_left}
+use Rattle.x509.proofs.WalkLaws.{IsStill}
 use Rattle.x509_rule_facts.specs.Attributes.{IsMistyped}
 use Rattle.x509_rule_facts.proofs.attributes.has_mistyped.Given as goal
 

@@ -1,8 +1,8 @@
 use Rattle.std.proofs.Common.{refl}
 use Rattle.std.proofs.lemmas.Bool.{false≢true}
-use Rattle.der_x509.specs.Certificates.{attribute, attribute_of}
-use Rattle.der_x509.proofs.CertificateLaws.{attribute_exact}
-use Rattle.der_x509.proofs.WalkLaws.{found_here, not_found, still_on}
+use Rattle.x509.specs.Certificates.{attribute, attribute_of}
+use Rattle.x509.proofs.CertificateLaws.{attribute_exact}
+use Rattle.x509.proofs.WalkLaws.{found_here, not_found, still_on}
 use Rattle.x509_rule_facts.proofs.attributes.has_mistyped_attribute.Goals as goal
 
 pub returns-then-is_mistyped : goal.returns-then-is_mistyped

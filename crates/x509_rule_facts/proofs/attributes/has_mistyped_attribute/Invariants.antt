@@ -1,6 +1,6 @@
-use Rattle.der_x509.specs.Certificates.{attribute}
-use Rattle.der_x509.specs.Lists.{attributes_left}
-use Rattle.der_x509.proofs.WalkLaws.{IsStill}
+use Rattle.x509.specs.Certificates.{attribute}
+use Rattle.x509.specs.Lists.{attributes_left}
+use Rattle.x509.proofs.WalkLaws.{IsStill}
 use Rattle.x509_rule_facts.specs.Attributes.{IsMistyped}
 use Rattle.x509_rule_facts.proofs.attributes.has_mistyped_attribute.Given as goal
 

@@ -1,9 +1,9 @@
 use Rattle.std.proofs.Common.{◌≡◌, rules, subst, sym}
-use Rattle.der_x509.specs.Formats.{set}
-use Rattle.der_x509.specs.Lists.{names_left}
+use Rattle.x509.specs.Formats.{set}
+use Rattle.x509.specs.Lists.{names_left}
 use Rattle.x509_rule_facts.specs.Attributes.{HasBadAttribute}
 use Rattle.x509_rule_facts.proofs.MarkLaws.{MarkedSoFar, marked_all, marked_more, marked_none}
-use Rattle.der_x509.proofs.WalkLaws.{ahead, nowhere}
+use Rattle.x509.proofs.WalkLaws.{ahead, nowhere}
 use Rattle.x509_rule_facts.proofs.attributes.mark_name.Goals as goal
 
 pub loop-relative_name-init : goal.loop-relative_name-init

@@ -1,4 +1,4 @@
-use Rattle.der_x509.specs.Lists.{names_left}
+use Rattle.x509.specs.Lists.{names_left}
 use Rattle.x509_rule_facts.specs.Attributes.{HasBadAttribute}
 use Rattle.x509_rule_facts.proofs.MarkLaws.{MarkedSoFar}
 use Rattle.x509_rule_facts.proofs.attributes.mark_name.Given as goal

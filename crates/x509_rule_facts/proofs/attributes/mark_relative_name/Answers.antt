@@ -1,11 +1,11 @@
 use Rattle.std.proofs.Common.{◌≡◌, ℕ, List, rules, subst, sym}
-use Rattle.der_x509.specs.Certificates.{attribute, attribute_of}
-use Rattle.der_x509.specs.Lists.{Somewhere, attributes_left}
+use Rattle.x509.specs.Certificates.{attribute, attribute_of}
+use Rattle.x509.specs.Lists.{Somewhere, attributes_left}
 use Rattle.x509_rule_facts.specs.declared.attributes.AttributeKind.{AttributeKind}
 use Rattle.x509_rule_facts.specs.Attributes.{IsBad}
-use Rattle.der_x509.proofs.CertificateLaws.{attribute_exact}
+use Rattle.x509.proofs.CertificateLaws.{attribute_exact}
 use Rattle.x509_rule_facts.proofs.MarkLaws.{MarkedSoFar, marked_all, marked_more, marked_none}
-use Rattle.der_x509.proofs.WalkLaws.{ahead, nowhere}
+use Rattle.x509.proofs.WalkLaws.{ahead, nowhere}
 use Rattle.x509_rule_facts.proofs.attributes.mark_relative_name.Goals as goal
 
 pub loop-attribute-init : goal.loop-attribute-init

@@ -1,5 +1,5 @@
-use Rattle.der_x509.specs.Certificates.{attribute}
-use Rattle.der_x509.specs.Lists.{Somewhere, attributes_left}
+use Rattle.x509.specs.Certificates.{attribute}
+use Rattle.x509.specs.Lists.{Somewhere, attributes_left}
 use Rattle.x509_rule_facts.specs.Attributes.{IsBad}
 use Rattle.x509_rule_facts.proofs.MarkLaws.{MarkedSoFar}
 use Rattle.x509_rule_facts.proofs.attributes.mark_relative_name.Given as goal

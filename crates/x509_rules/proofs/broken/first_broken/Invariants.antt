@@ -1,5 +1,5 @@
 use Rattle.std.proofs.Common.{length}
-use Rattle.der_x509.specs.Certificates.{certificate_of}
+use Rattle.x509.specs.Certificates.{certificate_of}
 use Rattle.x509_rules.specs.Rules.{Breaks}
 use Rattle.x509_rule_facts.proofs.FirstLaws.{Searched}
 use Rattle.x509_rules.proofs.broken.first_broken.Given as goal

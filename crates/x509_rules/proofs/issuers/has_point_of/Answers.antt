@@ -1,8 +1,8 @@
 use Rattle.std.proofs.Common.{refl}
 use Rattle.std.proofs.lemmas.Bool.{false≢true}
-use Rattle.der_x509.specs.Certificates.{extension, extension_of}
-use Rattle.der_x509.proofs.CertificateLaws.{extension_exact}
-use Rattle.der_x509.proofs.WalkLaws.{found_here, not_found, still_on}
+use Rattle.x509.specs.Certificates.{extension, extension_of}
+use Rattle.x509.proofs.CertificateLaws.{extension_exact}
+use Rattle.x509.proofs.WalkLaws.{found_here, not_found, still_on}
 use Rattle.x509_rules.proofs.issuers.has_point_of.Goals as goal
 
 pub returns-then-points_to_issuer : goal.returns-then-points_to_issuer

@@ -1,8 +1,8 @@
 use Rattle.std.proofs.Common.{refl}
 use Rattle.std.proofs.lemmas.Bool.{false≢true}
-use Rattle.der_x509.specs.Certificates.{extension, extension_of}
-use Rattle.der_x509.proofs.CertificateLaws.{extension_exact}
-use Rattle.der_x509.proofs.WalkLaws.{found_here, not_found, still_on}
+use Rattle.x509.specs.Certificates.{extension, extension_of}
+use Rattle.x509.proofs.CertificateLaws.{extension_exact}
+use Rattle.x509.proofs.WalkLaws.{found_here, not_found, still_on}
 use Rattle.x509_value_rules.specs.Facts.{Shows}
 use Rattle.x509_value_rules.proofs.facts.shows.Goals as goal
 

@@ -1,6 +1,6 @@
-use Rattle.der_x509.specs.Certificates.{extension}
-use Rattle.der_x509.specs.Lists.{extensions_left}
-use Rattle.der_x509.proofs.WalkLaws.{IsStill}
+use Rattle.x509.specs.Certificates.{extension}
+use Rattle.x509.specs.Lists.{extensions_left}
+use Rattle.x509.proofs.WalkLaws.{IsStill}
 use Rattle.x509_value_rules.specs.Facts.{IsShownBy}
 use Rattle.x509_value_rules.proofs.facts.shows.Given as goal
 

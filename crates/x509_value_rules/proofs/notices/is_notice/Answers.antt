@@ -1,8 +1,8 @@
-use Rattle.x509_rule_facts.proofs.SaidLaws.{not_readable, readable}
+use Rattle.x509_rule_facts.proofs.SaidLaws.{not_said, said}
 use Rattle.x509_value_rules.proofs.notices.is_notice.Goals as goal
 
 pub returns-in-Ok : goal.returns-in-Ok
-returns-in-Ok c = readable c.in-Ok.ensures
+returns-in-Ok c = said c.in-Ok.ensures c.has_display_texts.ensures
 
 pub returns-in-Err : goal.returns-in-Err
-returns-in-Err c = not_readable c.in-Err.ensures
+returns-in-Err c = not_said c.in-Err.ensures

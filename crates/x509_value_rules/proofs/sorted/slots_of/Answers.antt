@@ -1,6 +1,6 @@
 use Rattle.std.proofs.Common.{◌≡◌, ◌∙◌, rules, sym}
-use Rattle.der_x509.specs.Certificates.{extension_of}
-use Rattle.der_x509.specs.Lists.{extensions_left}
+use Rattle.x509.specs.Certificates.{extension_of}
+use Rattle.x509.specs.Lists.{extensions_left}
 use Rattle.x509_value_rules.proofs.SortedLaws.{sorted_all, sorted_none, sorted_one, sorted_past}
 use Rattle.x509_value_rules.proofs.sorted.slots_of.Goals as goal
 

@@ -1,4 +1,4 @@
-use Rattle.der_x509.specs.Lists.{extensions_left}
+use Rattle.x509.specs.Lists.{extensions_left}
 use Rattle.x509_value_rules.proofs.SortedLaws.{SortedSoFar}
 use Rattle.x509_value_rules.proofs.sorted.slots_of.Given as goal
 

@@ -1,4 +1,4 @@
-use Rattle.der_walk.specs.Walked.{visited_of}
+use Rattle.der_elements.specs.Walked.{visited_of}
 use Rattle.der_schema.specs.Steps.{label_of}
 use Rattle.der_actions.proofs.Fielding.{named_next, unnamed_next}
 use Rattle.der_actions.proofs.fields.Fields.field_of.Goals as goal

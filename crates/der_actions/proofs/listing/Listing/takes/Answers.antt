@@ -1,6 +1,6 @@
 use Rattle.std.proofs.Common.{[], ◌∷◌, ◌++◌, ◌∙◌, IsTrue, ap, subst, sym}
 use Rattle.std.specs.Prelude.{◌↔◌, ◌||◌}
-use Rattle.der_walk.specs.Walked.{visited_of}
+use Rattle.der_elements.specs.Walked.{visited_of}
 use Rattle.der_actions.specs.Places.{FollowsPath, IsAsked, around_after, is_listed}
 use Rattle.der_actions.proofs.Choosing.{chosen_more}
 use Rattle.der_actions.proofs.listing.Listing.takes.Goals as goal

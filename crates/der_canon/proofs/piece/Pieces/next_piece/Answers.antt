@@ -1,6 +1,6 @@
 use Rattle.std.proofs.Common.{sym, subst, refl}
 use Rattle.der_base.specs.declared.rules.Rules.TheVariants.{Ber}
-use Rattle.der_walk.specs.Walked.{visited_of}
+use Rattle.der_elements.specs.Walked.{visited_of}
 use Rattle.der_canon.specs.Errors.{IsStepTo, der}
 use Rattle.der_canon.specs.NoDer.{HasNoDer, one_more}
 use Rattle.der_canon.specs.Same.{no_extras}

@@ -1,5 +1,5 @@
 use Rattle.std.proofs.Common.{◌+◌, [], ◌∷◌, ◌++◌, length, sym, ap, subst, ◌∙◌, arith}
-use Rattle.der_walk.specs.Walked.{visited_of}
+use Rattle.der_elements.specs.Walked.{visited_of}
 use Rattle.der_canon.specs.Sizes.{Ends}
 use Rattle.der_canon.specs.Sizing.{constructed, cost, most, primitive}
 use Rattle.der_canon.proofs.Costs.{comes_more, cost_least, cost_of, push_parts}

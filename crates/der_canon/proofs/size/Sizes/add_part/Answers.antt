@@ -1,5 +1,5 @@
 use Rattle.std.proofs.Common.{◌+◌, ap, ◌∙◌, arith}
-use Rattle.der_walk.specs.Walked.{visited_of}
+use Rattle.der_elements.specs.Walked.{visited_of}
 use Rattle.der_canon.specs.Sizing.{cost, most, primitive}
 use Rattle.der_canon.proofs.Costs.{comes_more, cost_of}
 use Rattle.der_canon.proofs.Sizings.{both_some}

@@ -1,6 +1,6 @@
 use Rattle.std.proofs.Common.{[], ◌∷◌, ◌++◌, length, not, ap, sym, subst, ◌∙◌, arith}
 use Rattle.der_base.specs.Octets.{identifier}
-use Rattle.der_walk.specs.Walked.{visited_of}
+use Rattle.der_elements.specs.Walked.{visited_of}
 use Rattle.der_canon.specs.Same.{is_in_parts}
 use Rattle.der_canon.specs.Writing.{HasWritten}
 use Rattle.der_canon.proofs.Buffers.{written_more}

@@ -1,5 +1,5 @@
 use Rattle.std.proofs.Common.{sym, subst, ◌∙◌}
-use Rattle.der_walk.specs.Walked.{visited_of}
+use Rattle.der_elements.specs.Walked.{visited_of}
 use Rattle.der_canon.specs.Writing.{Puts}
 use Rattle.der_canon.proofs.Puts.{other_identifier, string_identifier}
 use Rattle.der_canon.proofs.writer.Writer.put_identifier.Goals as goal

@@ -1,5 +1,5 @@
 use Rattle.std.proofs.Common.{refl}
-use Rattle.der_laws.proofs.Containers.OpenedLaws.{opened_run}
+use Rattle.der_values.proofs.LawsLaws.Containers.OpenedLaws.{opened_run}
 use Rattle.der_combinators.proofs.containers.NumberedContainer.parse.Goals as goal
 
 pub parse_content-requires : goal.parse_content-requires

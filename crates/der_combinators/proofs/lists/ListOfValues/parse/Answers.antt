@@ -1,5 +1,5 @@
 use Rattle.std.proofs.Common.{refl}
-use Rattle.der_laws.proofs.Containers.OpenedLaws.{opened_run}
+use Rattle.der_values.proofs.LawsLaws.Containers.OpenedLaws.{opened_run}
 use Rattle.der_combinators.proofs.lists.ListOfValues.parse.Goals as goal
 
 pub parse_items-requires : goal.parse_items-requires

@@ -1,6 +1,6 @@
 use Rattle.std.proofs.Common.{◌≡◌, ◌++◌, List, Some, refl, rules, ℕ}
 use Rattle.std.proofs.Output.{WritesText-from_DisplaysOnOk, WritesText-from_lent}
-use Rattle.der_walk.specs.Walked.{visited_of}
+use Rattle.der_elements.specs.Walked.{visited_of}
 use Rattle.der_print.specs.Names.{table_of}
 use Rattle.der_print.specs.Texts.{content_of, octets_in}
 use Rattle.der_print.specs.declared.line_octets.LineOctets.{LineOctets}

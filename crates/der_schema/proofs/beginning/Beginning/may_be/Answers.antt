@@ -1,7 +1,7 @@
 use Rattle.std.proofs.Common.{◌+◌, ◌≤◌, List, ap, arith, drop, length, map, subst, sym, take, ◌∙◌}
 use Rattle.std.specs.Option.{is_some}
-use Rattle.der_walk.specs.Visits.{Visited}
-use Rattle.der_walk.specs.Walked.{visited_of}
+use Rattle.der_elements.specs.Visits.{Visited}
+use Rattle.der_elements.specs.Walked.{visited_of}
 use Rattle.der_schema.specs.Beginnings.{BeginsWith}
 use Rattle.der_schema.specs.Meaning.{root_of}
 use Rattle.der_schema.specs.Named.{HasNamed}

@@ -1,5 +1,5 @@
 use Rattle.std.proofs.Common.{◌≤◌, ◌-◌, map, take}
-use Rattle.der_walk.specs.Walked.{visited_of}
+use Rattle.der_elements.specs.Walked.{visited_of}
 use Rattle.der_schema.specs.Meaning.{root_of}
 use Rattle.der_schema.specs.Named.{HasNamed}
 use Rattle.der_schema.proofs.beginning.Beginning.may_be.Given as goal

@@ -2,9 +2,9 @@ use Rattle.std.proofs.Common.{◌≡◌, ◌≤◌, ◌+◌, List, [], ◌∷◌
 use Rattle.std.specs.List.{All}
 use Rattle.std.proofs.lemmas.List.{length-set, map-append, take_more_set}
 use Rattle.std.proofs.lemmas.List.Elements.{All-nil, All-append, All-cons}
-use Rattle.der_walk.specs.declared.element.Element.{Element}
-use Rattle.der_walk.specs.Visits.{Visited}
-use Rattle.der_walk.specs.Walked.{HasVisited, visited_of}
+use Rattle.der_elements.specs.declared.element.Element.{Element}
+use Rattle.der_elements.specs.Visits.{Visited}
+use Rattle.der_elements.specs.Walked.{HasVisited, visited_of}
 use Rattle.der_schema.specs.Known.{all_extras}
 use Rattle.der_schema.proofs.Prefix.{visited_first}
 use Rattle.der_schema.proofs.beginning.Beginning.of.Goals as goal

@@ -1,6 +1,6 @@
 use Rattle.std.proofs.Common.{◌≡◌, ◌≤◌, ◌-◌, length, map, take}
 use Rattle.std.specs.List.{All}
-use Rattle.der_walk.specs.Walked.{HasVisited, visited_of}
+use Rattle.der_elements.specs.Walked.{HasVisited, visited_of}
 use Rattle.der_schema.specs.Known.{all_extras}
 use Rattle.der_schema.proofs.beginning.Beginning.of.Given as goal
 

@@ -1,5 +1,5 @@
 use Rattle.std.proofs.Common.{Bool, refl, ap, ◌∙◌}
-use Rattle.der_walk.specs.Walked.{visited_of}
+use Rattle.der_elements.specs.Walked.{visited_of}
 use Rattle.der_schema.specs.Meaning.{all_types}
 use Rattle.der_schema.specs.Steps.{encoding_of, label_by}
 use Rattle.der_schema.proofs.Passed.{named_next}

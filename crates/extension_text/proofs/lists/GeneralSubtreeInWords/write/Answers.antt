@@ -1,5 +1,5 @@
 use Rattle.std.proofs.Common.{◌∙◌, ap, refl, sym}
-use Rattle.name_text.proofs.WriteLaws.{next, one, restated}
+use Rattle.extension_text.proofs.NamesLaws.WriteLaws.{next, one, restated}
 use Rattle.extension_text.specs.Extensions.{distances_text}
 use Rattle.extension_text.proofs.ItemLaws.{natural_is}
 use Rattle.extension_text.proofs.lists.GeneralSubtreeInWords.write.Goals as goal

@@ -1,5 +1,5 @@
 use Rattle.std.proofs.Common.{refl}
-use Rattle.name_text.proofs.WriteLaws.{next, restated}
+use Rattle.extension_text.proofs.NamesLaws.WriteLaws.{next, restated}
 use Rattle.extension_text.proofs.ItemLaws.{of_values}
 use Rattle.extension_text.proofs.web.DirectoryAttributeInWords.write.Goals as goal
 

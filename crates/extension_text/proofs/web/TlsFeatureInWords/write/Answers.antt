@@ -1,5 +1,5 @@
 use Rattle.std.proofs.Common.{refl}
-use Rattle.name_text.proofs.WriteLaws.{along, one}
+use Rattle.extension_text.proofs.NamesLaws.WriteLaws.{along, one}
 use Rattle.extension_text.proofs.web.TlsFeatureInWords.write.Goals as goal
 
 pub returns : goal.returns

@@ -1,7 +1,7 @@
 use Rattle.std.proofs.Common.{codes, decimal}
 use Rattle.std.proofs.Output.{has_written_of_eq}
 use Rattle.std.specs.Option.{option_copied}
-use Rattle.message_text.specs.Words.{name_text}
+use Rattle.type_words.specs.Texts.{name_text}
 use Rattle.message_text.proofs.Texts.{six}
 use Rattle.message_text.proofs.field.NumberFieldDisplay.fmt.Goals as goal
 

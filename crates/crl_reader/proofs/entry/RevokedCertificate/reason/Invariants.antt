@@ -1,7 +1,0 @@
-use Rattle.der_x509.specs.Lists.{extensions_left}
-use Rattle.crl_reader.proofs.ReasonLaws.{FirstFrom}
-use Rattle.crl_reader.proofs.entry.RevokedCertificate.reason.Given as goal
-
--- the extensions that are left
-abbrev pub invariant-loop-extension : goal.invariant-loop-extension
-invariant-loop-extension l = FirstFrom (extensions_left l.extension-iterator) l.fn.self.crl_entry_extensions.octets.now

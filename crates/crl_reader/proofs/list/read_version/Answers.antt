@@ -1,6 +1,0 @@
-use Rattle.std.proofs.Common.{rules}
-use Rattle.der_x509.proofs.ReaderLaws.{first}
-use Rattle.crl_reader.proofs.list.read_version.Goals as goal
-
-pub returns : goal.returns
-returns c = first (search rules) c.read_second_version.ensures

@@ -1,9 +1,0 @@
-use Rattle.der_cursor.proofs.FrontLaws.{framed, never_kept, refused_alone, value_alone}
-use Rattle.crl_reader.specs.Reasons.{CRLReason}
-use Rattle.crl_reader.proofs.reason.read_reason.Goals as goal
-
-pub returns-in-Ok : goal.returns-in-Ok
-returns-in-Ok c = value_alone (framed CRLReason) c.in-Ok.ensures
-
-pub returns-in-Err : goal.returns-in-Err
-returns-in-Err c = refused_alone (framed CRLReason) c.new.ensures never_kept c.in-Err.ensures c.of_element.ensures

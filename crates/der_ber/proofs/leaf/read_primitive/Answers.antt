@@ -1,4 +1,0 @@
-use Rattle.der_ber.proofs.leaf.read_primitive.Goals as goal
-
-pub returns-in_ok-read_string-in_default : goal.returns-in_ok-read_string-in_default
-returns-in_ok-read_string-in_default c = c.in_ok-read_string-in_default.ensures c.args.rules

@@ -1,7 +1,0 @@
-pub mod Contents
-pub mod ElementLaws
-pub mod FirstOctets
-pub mod HeadersBy
-pub mod OneList
-pub mod Quick
-pub mod TapeLaws

@@ -1,9 +1,0 @@
-//! The law of listed elements. The function's contract is the law, and its body is empty.
-ghost use Rattle.der_check.specs.Laws.{OneListOfElement, OneListOfElements};
-
-/// Octets have one list of elements. So what the slots keep after a call follows from the octets and the slots
-/// before, and what DER lists BER lists too.
-pub fn elements_have_one_list()
-    ensures all { OneListOfElements }
-    ensures one { OneListOfElement }
-{}

@@ -1,6 +1,0 @@
-pub mod Attributes
-pub mod Contents
-pub mod Elements
-pub mod Leaves
-pub mod Lists
-mod WorkedRows

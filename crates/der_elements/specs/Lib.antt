@@ -1,0 +1,12 @@
+pub mod Check
+pub mod Ends
+pub mod Faults
+pub mod FirstFault
+pub mod Inside
+pub mod Laws
+pub mod Paths
+pub mod Reading
+pub mod Reasons
+pub mod TypeNames
+pub mod Visits
+pub mod Walked

@@ -1,2 +1,0 @@
-pub mod Negatives
-pub mod PathsShown

@@ -1,5 +1,0 @@
-pub mod Json
-pub mod Numbers
-pub mod PathTexts
-pub mod Sent
-pub mod Timestamps

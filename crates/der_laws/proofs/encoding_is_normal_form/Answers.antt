@@ -1,5 +1,0 @@
-use Rattle.der_laws.proofs.Spellings.NormalForm.{encoding_normal_form}
-use Rattle.der_laws.proofs.encoding_is_normal_form.Goals as goal
-
-pub returns : goal.returns
-returns c = encoding_normal_form

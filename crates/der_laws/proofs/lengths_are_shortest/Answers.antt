@@ -1,8 +1,0 @@
-use Rattle.der_laws.proofs.StatedLaws.{octets_shortest, lengths_shortest}
-use Rattle.der_laws.proofs.lengths_are_shortest.Goals as goal
-
-pub returns-clause-number : goal.returns-clause-number
-returns-clause-number c = octets_shortest
-
-pub returns-clause-length : goal.returns-clause-length
-returns-clause-length c = lengths_shortest

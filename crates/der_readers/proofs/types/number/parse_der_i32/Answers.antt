@@ -1,0 +1,21 @@
+use Rattle.std.proofs.Common.{rules, ◌∙◌, SFits, w32}
+use Rattle.std.proofs.lemmas.Int.{to_z-of_z}
+use Rattle.std.proofs.lemmas.Result.{err_from_is_err_and}
+use Rattle.der_base.specs.Numbers.{signed}
+use Rattle.der_values.proofs.LawsLaws.Leaves.NumberReaders.{der_number_read, der_number_refused, der_number_unread}
+use Rattle.der_readers.proofs.types.number.parse_der_i32.Goals as goal
+
+pub returns-in_err-rest : goal.returns-in_err-rest
+returns-in_err-rest c =
+    let q = err_from_is_err_and c.from_residual.result c.from_residual.ensures.1 in
+    rw (q.1, q.2) (der_number_unread (λ v. v) (signed 32) c.args.i.now _ c.in_err-rest.field-0.0 c.in_err-rest.ensures)
+
+pub returns-in_err-n : goal.returns-in_err-n
+returns-in_err-n c =
+    let q = err_from_is_err_and c.from_residual-in_err-n.result c.from_residual-in_err-n.ensures.1 in
+    rw (q.1, q.2) (der_number_refused (λ v. v) (signed 32) c.args.i.now c.in_err-n.field-0.0 c.in_ok-rest.octets.now c.in_ok-rest.rest.now c.in_ok-rest.ensures c.in_err-n.ensures)
+
+pub returns : goal.returns
+returns c =
+    let fits : SFits w32 c.in_ok-n.n = search rules in
+    der_number_read (λ v. v) (signed 32) c.args.i.now _ c.in_ok-rest.octets.now c.in_ok-rest.ensures c.in_ok-n.ensures.0 (to_z-of_z w32 c.in_ok-n.n fits ∙ c.in_ok-n.ensures.1)

@@ -1,0 +1,3 @@
+pub mod Ber
+pub mod Der
+pub mod Types

@@ -1,5 +1,0 @@
-use Rattle.der_request.proofs.SignedLaws.{signed_octets_are_read}
-use Rattle.der_request.proofs.laws.signed_octets_are_read.Goals as goal
-
-pub returns : goal.returns
-returns c = signed_octets_are_read

@@ -1,7 +1,0 @@
-use Rattle.std.proofs.Common.{rules}
-use Rattle.der_values.specs.Kinds.{bit_strings}
-use Rattle.der_x509.proofs.ReaderLaws.{given_back, optional_read}
-use Rattle.der_x509.proofs.certificate.read_unique_id.Goals as goal
-
-pub returns : goal.returns
-returns c = given_back (optional_read (λ r. bit_strings r) c.args.number 3 c.implicit.ensures.tagged c.optional_bits.ensures) (search rules)

@@ -1,9 +1,0 @@
-use Rattle.std.proofs.Common.{◌≡◌, true}
-use Rattle.der_x509.specs.Certificates.{extension}
-use Rattle.der_x509.specs.Lists.{extensions_left}
-use Rattle.der_x509.proofs.WalkLaws.{IsStill}
-use Rattle.der_x509.proofs.list_rules.has_critical.Given as goal
-
--- what is asked is asked of the extensions that are left
-abbrev pub invariant-loop-extension : goal.invariant-loop-extension
-invariant-loop-extension l = IsStill extension (λ e _. (e.identifier ≡ l.fn.identifier) × (e.critical ≡ true)) l.fn.extensions.octets.now (extensions_left l.extension-iterator)

@@ -1,0 +1,13 @@
+use Rattle.c_values.specs.Cursors.{IsSame}
+use Rattle.c_values.proofs.ExactNumbers.{number_begins, reads_number}
+use Rattle.der_base.specs.declared.rules.Rules.TheVariants.{Der}
+use Rattle.der_base.specs.Numbers.{signed}
+use Rattle.der_cursor.proofs.KindLaws.{number_one}
+use Rattle.der_values.specs.Kinds.{numbers}
+use Rattle.dumarewhi_c.proofs.next.dm_next_i64.Goals as goal
+
+pub returns-clause-exactly : goal.returns-clause-exactly
+returns-clause-exactly c =
+    let kind = signed 64 in
+    reads_number (λ v. v) (numbers Der kind) (number_one Der kind) (number_begins kind) 2 c.resume-fields.result IsSame _ _ c.integer.result c.exact_i64-found.result c.integer.new.self _ _ _ c.resume-fields.ensures c.integer.ensures
+    c.exact_i64-found.ensures c.finish.ensures

@@ -1,9 +1,0 @@
--- A notice in an element.
-use Rattle.std.proofs.Common.{Ok, Err, Result}
-use Rattle.der_base.specs.declared.rules.Rules.TheVariants.{Der}
-use Rattle.der_cursor.specs.Formats.{Element, ReadsWhole}
-use Rattle.extension_text.specs.Notices.{IsNoticeIn, IsSequence, NoticeFields, NoticeValue}
-
-pub of_sequence : (e : Element) {T E : Type 0} {view : T → NoticeValue} {May : E → Type 0} {result : Result T E} → IsSequence e → ReadsWhole (NoticeFields Der e.3) view May result → ReadsWhole (IsNoticeIn e) view May result
-of_sequence e {result = Ok x} s h = record { found = (s, h.found); only = λ n k. h.only n k.1 }
-of_sequence e {result = Err x} s h = record { found = tt; only = λ n k. h.only n k.1 }

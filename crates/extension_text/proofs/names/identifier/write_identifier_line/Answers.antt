@@ -1,0 +1,6 @@
+use Rattle.std.proofs.Common.{refl}
+use Rattle.extension_text.proofs.NamesLaws.WriteLaws.{next, one}
+use Rattle.extension_text.proofs.names.identifier.write_identifier_line.Goals as goal
+
+pub returns : goal.returns
+returns g c = next (one c.in_ok-write_str.ensures.writes) refl (next c.in_ok-write_identifier.ensures refl (one c.write.ensures.writes))

@@ -1,0 +1,27 @@
+use Rattle.std.proofs.Common.{[], ◌++◌, ap, refl}
+use Rattle.std.proofs.Output.{has_written_append, writes_in_calls_nil}
+use Rattle.x509.specs.Lists.{attributes_left}
+use Rattle.extension_text.proofs.NamesLaws.LoopLaws.{goes_end, goes_on, goes_start}
+use Rattle.extension_text.proofs.names.name.write_further.Goals as goal
+
+pub loop-attribute-init : goal.loop-attribute-init
+loop-attribute-init g c = record {
+  done = λ plain. ([], goes_start (ap (λ x. attributes_left x) c.into_iter-attribute-iterator.ensures.into_iter_gives), record { wrote = writes_in_calls_nil _ _; plain = plain });
+}
+
+pub loop-attribute-preserved : goal.loop-attribute-preserved
+loop-attribute-preserved g c = record {
+  done = λ plain.
+      let done = c.loop-attribute.invariant.done plain in
+      let item = c.in_ok-write_after_plus.ensures done.2.plain refl in (
+        done.0 ++ item.0,
+        goes_on done.0 item.0 _ c.in-Some.ensures.steps item.1 done.1,
+        has_written_append _ _ _ _ _ _ done.2 item.2,
+      );
+}
+
+pub returns : goal.returns
+returns g c =
+    λ plain ok.
+    let done = c.loop-attribute.invariant.done plain in
+    (done.0, goes_end c.in-None.ensures.steps.0 done.1, done.2)

@@ -1,5 +1,0 @@
-use Rattle.der_cursor.proofs.FormatLaws.{value_read}
-use Rattle.kerberos_reader.proofs.name.read_text.Goals as goal
-
-pub returns : goal.returns
-returns c = value_read _ c.general_string.ensures

@@ -1,3 +1,0 @@
-pub mod ContentLaws
-pub mod FilterLaws
-pub mod OperationLaws

@@ -1,5 +1,0 @@
-use Rattle.der_cursor.proofs.FormatLaws.{value_read}
-use Rattle.ldap_reader.proofs.items.read_text.Goals as goal
-
-pub returns : goal.returns
-returns c = value_read _ c.octets.ensures

@@ -1,5 +1,0 @@
-pub mod FilterKinds
-pub mod Filters
-pub mod Messages
-pub mod Operations
-pub mod Words

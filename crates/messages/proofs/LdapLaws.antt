@@ -1,0 +1,4 @@
+pub mod ContentLaws
+pub mod FilterLaws
+pub mod OperationLaws
+pub mod WriterLaws

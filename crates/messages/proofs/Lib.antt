@@ -1,0 +1,3 @@
+pub mod KerberosLaws
+pub mod LdapLaws
+pub mod SnmpLaws

@@ -1,0 +1,4 @@
+pub mod FieldLaws
+pub mod MessageLaws
+pub mod SyntaxLaws
+pub mod WriterLaws

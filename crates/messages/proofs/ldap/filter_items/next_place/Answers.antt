@@ -1,0 +1,16 @@
+use Rattle.std.proofs.Common.{sym, subst}
+use Rattle.std.proofs.lemmas.Result.{err_from_is_err_and}
+use Rattle.der_cursor.specs.Formats.{TellsNext}
+use Rattle.der_cursor.proofs.ChoiceLaws.{next_stops}
+use Rattle.messages.specs.Ldap.Filters.{PieceType}
+use Rattle.messages.proofs.LdapLaws.FilterLaws.{next_place_is}
+use Rattle.messages.proofs.ldap.filter_items.next_place.Goals as goal
+
+pub returns-in_err-any : goal.returns-in_err-any
+returns-in_err-any c =
+    let q = err_from_is_err_and c.from_residual.result c.from_residual.ensures.1 in
+    rw (q.1, q.2) (next_stops PieceType c.in_err-any.ensures)
+
+pub returns : goal.returns
+returns c = subst (λ r. TellsNext PieceType c.args.pieces r) (sym c.ok_or.ensures.value)
+    (next_place_is _ c.in_ok-any.field-0 c.tag-tag.result.0 c.of_tag.result c.in_ok-any.ensures c.tag-tag.ensures c.of_tag.ensures)

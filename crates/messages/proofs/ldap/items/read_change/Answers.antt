@@ -1,0 +1,23 @@
+use Rattle.std.proofs.Common.{refl}
+use Rattle.der_cursor.proofs.FormatLaws.{inside, value_read}
+use Rattle.der_cursor.proofs.Sequences.{after, finish_with, refused_open, start_as, stops, stops_never, stops_with}
+use Rattle.messages.proofs.ldap.items.read_change.Goals as goal
+
+pub returns-in_err-fields : goal.returns-in_err-fields
+returns-in_err-fields c = refused_open _ _ c.in_err-fields.ensures c.from_residual.ensures.1
+
+pub returns-in_err-operation : goal.returns-in_err-operation
+returns-in_err-operation c = inside _ _ c.in_ok-fields.ensures (λ fresh. stops_never _ (start_as _ _ fresh)
+    (value_read _ c.in_err-operation.ensures) c.from_residual-in_err-operation.ensures.1)
+
+pub returns-in_err-attribute : goal.returns-in_err-attribute
+returns-in_err-attribute c = inside _ _ c.in_ok-fields.ensures (λ fresh. stops _ (after (start_as _ _ fresh) (value_read _ c.in_ok-operation.ensures))
+    (c.in_err-attribute.ensures) c.from_residual-in_err-attribute.ensures.1)
+
+pub returns-in_err-pass_over : goal.returns-in_err-pass_over
+returns-in_err-pass_over c = inside _ _ c.in_ok-fields.ensures (λ fresh. stops_with _ (after (after (start_as _ _ fresh) (value_read _ c.in_ok-operation.ensures)) (c.in_ok-attribute.ensures))
+    c.in_err-pass_over.ensures c.from_residual-in_err-pass_over.ensures.1)
+
+pub returns : goal.returns
+returns c = inside _ _ c.in_ok-fields.ensures (λ fresh. finish_with (after (after (start_as _ _ fresh) (value_read _ c.in_ok-operation.ensures)) (c.in_ok-attribute.ensures))
+    c.in_ok-pass_over.ensures refl)

@@ -1,0 +1,21 @@
+use Rattle.std.proofs.Common.{refl}
+use Rattle.der_cursor.proofs.FormatLaws.{value_read}
+use Rattle.der_cursor.proofs.Sequences.{after, content_named_in, finish_with, named, start_as, stops_never, stops_with}
+use Rattle.der_cursor.specs.Formats.{Others}
+use Rattle.messages.proofs.ldap.reader.read_rename.Goals as goal
+
+pub returns-in_err-name : goal.returns-in_err-name
+returns-in_err-name c = λ fresh. stops_never _ (start_as _ _ fresh) (named _ (value_read _ c.octets.ensures) c.in_err-name.ensures) c.from_residual.ensures.1
+
+pub returns-in_err-new_name : goal.returns-in_err-new_name
+returns-in_err-new_name c = λ fresh. stops_never _ (after (start_as _ _ fresh) (named _ (value_read _ c.octets.ensures) c.in_ok-name.ensures))
+    (named _ (value_read _ c.octets-2.ensures) c.in_err-new_name.ensures) c.from_residual-in_err-new_name.ensures.1
+
+pub returns-in_err-named : goal.returns-in_err-named
+returns-in_err-named c = λ fresh. stops_with _ (after (after (start_as _ _ fresh) (named _ (value_read _ c.octets.ensures) c.in_ok-name.ensures))
+    (named _ (value_read _ c.octets-2.ensures) c.in_ok-new_name.ensures))
+    (content_named_in _ Others c.octets-2.new.self c.pass_over.ensures c.in_err-named.ensures) c.from_residual-in_err-named.ensures.1
+
+pub returns : goal.returns
+returns c = λ fresh. finish_with (after (after (start_as _ _ fresh) (named _ (value_read _ c.octets.ensures) c.in_ok-name.ensures))
+    (named _ (value_read _ c.octets-2.ensures) c.in_ok-new_name.ensures)) (content_named_in _ Others c.octets-2.new.self c.pass_over.ensures c.in_ok-named.ensures) refl

@@ -1,0 +1,6 @@
+pub mod FilterKinds
+pub mod Filters
+pub mod Messages
+pub mod Operations
+pub mod Words
+pub mod Writer

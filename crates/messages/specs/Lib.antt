@@ -1,0 +1,3 @@
+pub mod Kerberos
+pub mod Ldap
+pub mod Snmp

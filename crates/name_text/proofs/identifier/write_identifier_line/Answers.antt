@@ -1,6 +1,0 @@
-use Rattle.std.proofs.Common.{refl}
-use Rattle.name_text.proofs.WriteLaws.{next, one}
-use Rattle.name_text.proofs.identifier.write_identifier_line.Goals as goal
-
-pub returns : goal.returns
-returns g c = next (one c.in_ok-write_str.ensures.writes) refl (next c.in_ok-write_identifier.ensures refl (one c.write.ensures.writes))

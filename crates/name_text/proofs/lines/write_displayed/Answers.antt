@@ -1,5 +1,0 @@
-use Rattle.name_text.proofs.WriteLaws.{one, restated}
-use Rattle.name_text.proofs.lines.write_displayed.Goals as goal
-
-pub returns : goal.returns
-returns g c = restated (λ t x. (_, c.in_ok-text.ensures, x)) (one c.write.ensures.writes)

@@ -1,8 +1,0 @@
-use Rattle.partial_certificate.proofs.FieldLaws.{follows}
-use Rattle.der_values.specs.Kinds.{integers}
-use Rattle.der_x509.proofs.ReaderLaws.{value_read}
-use Rattle.partial_certificate.proofs.PartialLaws.{number_exact}
-use Rattle.partial_certificate.proofs.fields.Fields.integer.Goals as goal
-
-pub returns : goal.returns
-returns c = follows _ _ number_exact c.in_ok-fields.ensures (value_read (λ r. integers r) 2 c.integer-found.ensures) c.after.ensures

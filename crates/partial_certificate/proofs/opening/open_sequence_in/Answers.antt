@@ -1,8 +1,0 @@
-use Rattle.partial_certificate.proofs.OpeningLaws.{inside_of, none_outside}
-use Rattle.partial_certificate.proofs.opening.open_sequence_in.Goals as goal
-
-pub returns-in-Some : goal.returns-in-Some
-returns-in-Some c = inside_of c.args.class c.args.tag.0 c.open-in-Some.result c.in-Some.ensures c.open-in-Some.ensures
-
-pub returns-in-None : goal.returns-in-None
-returns-in-None c = none_outside c.args.class c.args.tag.0 c.in-None.ensures

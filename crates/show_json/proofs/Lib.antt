@@ -1,3 +1,0 @@
-mod LineLaws
-mod ObjectLaws
-mod WordLaws

@@ -1,0 +1,4 @@
+pub mod FieldsLaws
+pub mod Negatives
+pub mod PathsShown
+pub mod ShownLaws

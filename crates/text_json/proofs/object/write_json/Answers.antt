@@ -1,0 +1,21 @@
+use Rattle.std.proofs.Common.{subst, sym}
+use Rattle.std.proofs.lemmas.Result.{on_ok_weaker}
+use Rattle.text_json.specs.Json.{IsWholeOf}
+use Rattle.der_print.specs.Names.{table_of}
+use Rattle.der_print.specs.Texts.{content_of}
+use Rattle.der_elements.specs.Walked.{visited_of}
+use Rattle.text_json.proofs.object.write_json.Goals as goal
+
+pub returns : goal.returns
+returns g c =
+    let e = c.args.element.now in
+    let P = IsWholeOf c.args.source (table_of c.args.own) (visited_of e) (content_of e) in
+    let o = c.in_ok-object.ensures in
+    on_ok_weaker c.write_object.result
+    (λ a. record {
+      object = a.object;
+      is = subst P (sym a.is) (o.source, o.octets, o.element);
+      text = a.text;
+      is_json = a.is_json;
+      adds = a.adds;
+    }) c.write_object.ensures

@@ -1,0 +1,17 @@
+-- The words of the code.
+use Rattle.std.specs.Prelude.{◌≡◌, ◌≤◌, ℕ, List, [], ◌∷◌}
+use Rattle.serde_json.specs.View.{view}
+use Rattle.text_json.specs.declared.shown.words.Word.{Word}
+use Rattle.text_json.specs.Shown.Lines.{Placed}
+
+abbrev pub placed_of : Word → Placed
+placed_of w = record { indent = w.indent; word = view w.value }
+
+-- the first word, if there is one, isn't deeper than a line with this indent
+abbrev pub IsFirstBeside : ℕ → List Word → Type 0
+IsFirstBeside n [] = Unit {0}
+IsFirstBeside n (w ∷ words) = w.indent ≤ n
+
+-- no first word is deeper, so none is taken
+abbrev pub IsNoneDeeper : ℕ → List Word → List Word → Type 0
+IsNoneDeeper n old new = (new ≡ old) × IsFirstBeside n old

@@ -1,0 +1,39 @@
+-- Items as lines of text.
+use Rattle.std.specs.Prelude.{◌≡◌, ℕ, zero, suc, List, [], ◌∷◌, ◌++◌, codes, decimal}
+use Rattle.der_schema.specs.declared.words.Notation.{Notation}
+use Rattle.der_schema.specs.declared.words.Notation.TheVariants.{Title, Count}
+use Rattle.type_words.specs.Counts.{IsCountOf}
+use Rattle.type_words.specs.Items.{Said}
+use Rattle.type_words.specs.Texts.{value_text}
+
+-- two spaces for each level
+abbrev pub columns : ℕ → List ℕ
+columns zero = []
+columns (suc n) = codes "  " ++ columns n
+
+-- a value after a space and what is in front of it
+abbrev pub value_ending : List ℕ → Notation → List ℕ → List ℕ
+value_ending [] n w = codes " " ++ value_text n w
+value_ending (b ∷ kind) n w = codes " " ++ (b ∷ kind) ++ codes " " ++ value_text n w
+
+-- what is behind the colon
+abbrev pub ending_by : Notation → Said → ℕ → List ℕ
+ending_by Title x count = []
+ending_by Count x count = codes " " ++ decimal count
+ending_by n x count = value_ending x.kind n x.octets
+
+abbrev pub ending_text : Said → ℕ → List ℕ
+ending_text x count = ending_by x.notation x count
+
+-- the line of an item, with the number of elements that its notation counts
+abbrev pub line_text : Said → ℕ → List ℕ
+line_text x count = columns x.indent ++ x.label ++ codes ":" ++ ending_text x count ++ codes "\n"
+
+abbrev pub IsLine : Said → List ℕ → Type 0
+IsLine x line = (count : ℕ) × IsCountOf x count × (line ≡ line_text x count)
+
+-- the lines of items, one after another
+pub data AreLines : List Said → List ℕ → Type 0 where
+  no_lines : {xs : List Said} {text : List ℕ} → xs ≡ [] → text ≡ [] → AreLines xs text
+  one_more : {xs : List Said} {text : List ℕ} (before : List Said) (x : Said) (lines line : List ℕ)
+      → xs ≡ before ++ x ∷ [] → text ≡ lines ++ line → AreLines before lines → IsLine x line → AreLines xs text

@@ -1,0 +1,13 @@
+pub mod CertificateLaws
+pub mod CrlLaws
+pub mod ExactLaws
+pub mod FormatLaws
+pub mod ListLaws
+pub mod PartialLaws
+pub mod ReaderLaws
+pub mod Refinements
+pub mod RepetitionLaws
+pub mod RuleLaws
+pub mod SignedLaws
+pub mod VersionLaws
+pub mod WalkLaws

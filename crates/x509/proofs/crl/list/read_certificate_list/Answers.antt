@@ -1,0 +1,19 @@
+use Rattle.std.proofs.Common.{refl}
+use Rattle.std.proofs.lemmas.Result.{err_from_is_err_and}
+use Rattle.x509.specs.declared.crl.refusal.Field.TheVariants as field
+use Rattle.x509.proofs.CrlLaws.CrlLaws.{named_read, read_from_start}
+use Rattle.x509.proofs.ReaderLaws.{end_read, finished, step, stop, whole}
+use Rattle.x509.proofs.crl.list.read_certificate_list.Goals as goal
+
+pub returns-in_err-list : goal.returns-in_err-list
+returns-in_err-list c =
+    let q = err_from_is_err_and c.from_residual.result c.from_residual.ensures.1 in
+    rw (q.1, q.2) (read_from_start c.args.octets.now c.new-input.result _ c.new-input.ensures (whole (stop (c.in_err-list.ensures))))
+
+pub returns-in_err-of : goal.returns-in_err-of
+returns-in_err-of c =
+    let q = err_from_is_err_and c.from_residual-in_err-of.result c.from_residual-in_err-of.ensures.1 in
+    rw (q.1, q.2) (read_from_start c.args.octets.now c.new-input.result _ c.new-input.ensures (whole (step (c.in_ok-list.ensures) (stop (named_read field.CertificateList _ c.in_err-of.ensures (end_read c.end.ensures))))))
+
+pub returns : goal.returns
+returns c = read_from_start c.args.octets.now c.new-input.result _ c.new-input.ensures (whole (step (c.in_ok-list.ensures) (step (named_read field.CertificateList _ c.in_ok-of.ensures (end_read c.end.ensures)) (finished refl))))

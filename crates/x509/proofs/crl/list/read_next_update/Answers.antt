@@ -1,0 +1,12 @@
+use Rattle.std.proofs.Common.{refl, rules}
+use Rattle.std.proofs.lemmas.Result.{err_from_is_err_and}
+use Rattle.x509.proofs.ReaderLaws.{finished, first, step, stop}
+use Rattle.x509.proofs.crl.list.read_next_update.Goals as goal
+
+pub returns-in_err-read_time : goal.returns-in_err-read_time
+returns-in_err-read_time c =
+    let q = err_from_is_err_and c.from_residual.result c.from_residual.ensures.1 in
+    rw (q.1, q.2) (first (search rules) (stop c.in_err-read_time.ensures))
+
+pub returns : goal.returns
+returns c = first (search rules) (step c.in_ok-read_time.ensures (finished refl))

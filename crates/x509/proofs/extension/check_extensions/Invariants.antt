@@ -1,0 +1,11 @@
+use Rattle.std.proofs.Common.{length}
+use Rattle.x509.specs.Certificates.{extension}
+use Rattle.x509.proofs.ReaderLaws.{Reaches}
+use Rattle.x509.proofs.extension.check_extensions.Given as goal
+
+-- the items so far
+abbrev pub invariant-loop-list : goal.invariant-loop-list
+invariant-loop-list l = Reaches extension l.fn.list l.list
+
+abbrev pub decreases-loop-list : goal.decreases-loop-list
+decreases-loop-list l = length l.list.left.now

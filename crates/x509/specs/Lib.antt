@@ -1,0 +1,9 @@
+pub mod Certificates
+pub mod Crl
+pub mod Formats
+pub mod Laws
+pub mod Lists
+pub mod Partial
+pub mod Readers
+pub mod Rules
+pub mod Times

@@ -1,8 +1,0 @@
-use Rattle.crl_reader.specs.Lists.{entries_left, revoked_certificate}
-use Rattle.der_x509.proofs.WalkLaws.{IsStill}
-use Rattle.x509_crl_rules.specs.Entries.{BreaksEntry}
-use Rattle.x509_crl_rules.proofs.entries.is_one_broken.Given as goal
-
--- what is asked is asked of the entries that are left
-abbrev pub invariant-loop-entry : goal.invariant-loop-entry
-invariant-loop-entry l = IsStill revoked_certificate (λ e _. BreaksEntry l.fn.rule e) l.fn.entries.octets.now (entries_left l.entry-iterator)

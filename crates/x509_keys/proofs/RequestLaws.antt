@@ -1,0 +1,3 @@
+pub mod RequestLaws
+pub mod SignedLaws
+pub mod WriterLaws

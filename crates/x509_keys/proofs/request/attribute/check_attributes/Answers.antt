@@ -1,0 +1,18 @@
+use Rattle.std.proofs.Common.{rules}
+use Rattle.std.proofs.lemmas.Result.{err_from_is_err_and}
+use Rattle.x509.proofs.ReaderLaws.{reaches_end, reaches_more, reaches_refused, reaches_start}
+use Rattle.x509_keys.proofs.request.attribute.check_attributes.Goals as goal
+
+pub loop-list-init : goal.loop-list-init
+loop-list-init c = reaches_start
+
+pub returns-in_err-read_attribute : goal.returns-in_err-read_attribute
+returns-in_err-read_attribute c =
+    let q = err_from_is_err_and c.from_residual.result c.from_residual.ensures.1 in
+    rw (q.1, q.2) (reaches_refused c.loop-list.invariant (search rules) c.in_err-read_attribute.ensures.reads)
+
+pub loop-list-preserved : goal.loop-list-preserved
+loop-list-preserved c = reaches_more c.loop-list.invariant (search rules) c.in_ok-read_attribute.ensures.reads
+
+pub returns : goal.returns
+returns c = reaches_end c.loop-list.invariant (search rules)

@@ -1,0 +1,7 @@
+use Rattle.std.proofs.Common.{refl}
+use Rattle.x509_keys.proofs.RequestLaws.RequestLaws.{attribute_exact}
+use Rattle.x509.proofs.ListLaws.{no_item}
+use Rattle.x509_keys.proofs.request.lists.AttributeIterIterator.next.Goals as goal
+
+pub returns-in_default-clause-steps : goal.returns-in_default-clause-steps
+returns-in_default-clause-steps c = (no_item attribute_exact c.new-list.ensures c.in_default.ensures.reads, refl)

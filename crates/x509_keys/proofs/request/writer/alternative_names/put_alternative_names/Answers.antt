@@ -1,0 +1,5 @@
+use Rattle.der_writer.proofs.Composing.{put_element}
+use Rattle.x509_keys.proofs.request.writer.alternative_names.put_alternative_names.Goals as goal
+
+pub returns : goal.returns
+returns c = put_element c.open_sequence-sequence.ensures c.put_dns_names.ensures c.close.ensures

@@ -1,0 +1,4 @@
+pub mod Lists
+pub mod Requests
+pub mod Texts
+pub mod Writer

@@ -1,8 +1,0 @@
-use Rattle.x509_rule_facts.proofs.SaidLaws.{not_readable, readable}
-use Rattle.x509_rule_facts.proofs.types.is_of_constraints.Goals as goal
-
-pub returns-in-Ok : goal.returns-in-Ok
-returns-in-Ok c = readable c.in-Ok.ensures.value
-
-pub returns-in-Err : goal.returns-in-Err
-returns-in-Err c = not_readable c.in-Err.ensures.value
