@@ -39,8 +39,16 @@ pub enum Notation {
     Octets,
     /// Hexadecimal digits.
     Hex,
+    /// The number of octets.
+    Length,
     /// An address of IPv4.
     Address,
+    /// A text in quotes.
+    Text,
+    /// The texts of the elements inside, each in quotes, with slashes between them.
+    Joined,
+    /// The time of a GeneralizedTime, or its text in quotes if it is none.
+    GeneralizedTime,
 }
 
 /// The name of a number.

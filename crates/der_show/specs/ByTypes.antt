@@ -1,11 +1,16 @@
 -- The words of octets by a known type.
-use Rattle.std.specs.Prelude.{◌≡◌, ℕ, Option, Some, None, List}
+use Rattle.std.specs.Prelude.{◌≡◌, ◌⊎◌, ℕ, Bool, true, false, IsTrue, Option, Some, None, List, [], ◌∷◌, codes}
 use Rattle.der_base.specs.declared.rules.Rules.TheVariants.{Ber}
 use Rattle.der_elements.specs.Visits.{Visited, Visits}
 use Rattle.der_known.specs.declared.known.KnownTypes.{KnownTypes}
 use Rattle.der_schema.specs.declared.schema.Schema.{Schema}
+use Rattle.der_schema.specs.declared.schema.Component.{Component}
+use Rattle.der_schema.specs.declared.words.Notation.{Notation}
+use Rattle.der_schema.specs.declared.words.Notation.TheVariants.{Title}
+use Rattle.der_schema.specs.declared.words.Words.{Words}
 use Rattle.der_schema.specs.Known.{IsFirstSchema, all_extras}
-use Rattle.der_schema.specs.Meaning.{all_types, root_of}
+use Rattle.der_schema.specs.Meaning.{all_types, root_of, words_in}
+use Rattle.der_show.specs.declared.words.Words.{Words as Summary}
 use Rattle.type_words.specs.Items.{items_of}
 use Rattle.type_words.specs.Lines.{AreLines}
 
@@ -25,3 +30,34 @@ HasWords types name i None = (text : List ℕ) → ¬ AreWords types name i text
 abbrev pub ShowsByType : (List ℕ → Type 0) → KnownTypes → List ℕ → List ℕ → Option (List ℕ) → Type 0
 ShowsByType IsSo types name i (Some text) = IsSo i × AreWords types name i text
 ShowsByType IsSo types name i None = (text : List ℕ) → IsSo i → ¬ AreWords types name i text
+
+-- Types without a reader.
+
+-- the types that are only shown in words if their readers take the octets
+abbrev pub IsReadFirst : List ℕ → Type 0
+IsReadFirst name = (name ≡ codes "Message") ⊎ (name ≡ codes "LDAPMessage") ⊎ (name ≡ codes "AS-REQ")
+
+abbrev pub is_title : Notation → Bool
+is_title Title = true
+is_title n = false
+
+abbrev pub begins_with_title : Option Words → Bool
+begins_with_title (Some w) = is_title w.notation
+begins_with_title None = false
+
+-- the words of a type begin with a title
+abbrev pub has_title : List Component → Bool
+has_title (c ∷ cs) = begins_with_title (words_in c.words)
+has_title [] = false
+
+-- the words of the type are shown
+abbrev pub IsInWords : Schema → Type 0
+IsInWords sc = IsTrue (has_title sc.components.now) × (¬ IsReadFirst sc.name.now)
+
+-- the words of a type for octets that have it
+pub record AreTypeWords (sc : Schema) (i : List ℕ) (w : Summary) : Type 0 where
+  pub elements : List Visited
+  pub visits : Visits all_extras Ber 101 0 0 i elements
+  pub lines : AreLines (items_of (root_of sc) i elements) w.text.items
+  pub start : w.words_at ≡ 0
+  pub rules : w.keeps_rules ≡ true

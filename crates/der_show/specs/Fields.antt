@@ -11,6 +11,7 @@ use Rattle.der_schema.specs.Meaning.{all_types, root_of}
 use Rattle.der_elements.specs.Visits.{Visited, Visits}
 use Rattle.der_show.specs.declared.known.Known.{Known}
 use Rattle.der_show.specs.declared.words.Words.{Words}
+use Rattle.der_show.specs.ByTypes.{AreTypeWords, IsInWords}
 use Rattle.der_show.specs.InWords.{octets_in}
 use Rattle.der_show.specs.Known.{IsKnown, KeepsRules}
 use Rattle.der_show.specs.Leaves.{IsInLeaf, field_of, fields_style, leaf_line, words_text}
@@ -79,9 +80,13 @@ IsReadAlone name = (name ≡ codes "Certificate") ⊎ (name ≡ codes "Certifica
     ⊎ (name ≡ codes "CertificationRequest") ⊎ (name ≡ codes "PrivateKeyInfo") ⊎ (name ≡ codes "RSAPrivateKey")
     ⊎ (name ≡ codes "ECPrivateKey")
 
+-- the words of the type, or its fields
+abbrev pub AreWordsOfType : Option ℕ → Schema → List ℕ → Words → Type 0
+AreWordsOfType now sc i w = (IsInWords sc × AreTypeWords sc i w) ⊎ ((¬ IsInWords sc) × AreWordsByFields now sc i w)
+
 -- the text for octets by that type, if there is one that isn't only shown by its reader
 abbrev pub IsByFields : Option ℕ → KnownTypes → List ℕ → Option Words → Type 0
 IsByFields now types i (Some w) = (sc : Schema) × IsTypeOf types i (Some sc) × (¬ IsReadAlone sc.name.now)
-    × AreWordsByFields now sc i w
+    × AreWordsOfType now sc i w
 IsByFields now types i None = IsTypeOf types i None
     ⊎ ((sc : Schema) × IsTypeOf types i (Some sc) × IsReadAlone sc.name.now)

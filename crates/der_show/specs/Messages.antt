@@ -7,7 +7,7 @@ use Rattle.der_base.specs.declared.rules.Rules.TheVariants.{Ber, Der}
 use Rattle.der_cursor.specs.Formats.{Format, Only, Required}
 use Rattle.der_known.specs.declared.known.KnownTypes.{KnownTypes}
 use Rattle.x509.specs.Formats.{Format as KeyFormat, spells}
-use Rattle.messages.specs.Kerberos.Requests.{AsReq, request_of}
+use Rattle.messages.specs.Kerberos.Requests.{AsReq, RequestValue}
 use Rattle.messages.specs.Ldap.Messages.{Message as LdapMessage, message_of as ldap_of}
 use Rattle.message_text.specs.declared.algorithm.EncryptedKeyText.{EncryptedKeyText}
 use Rattle.message_text.specs.declared.curve_key.EcKeyText.{EcKeyText}
@@ -15,7 +15,6 @@ use Rattle.message_text.specs.declared.private_key.PrivateKeyText.{PrivateKeyTex
 use Rattle.message_text.specs.declared.public_key.PublicKeyText.{PublicKeyText}
 use Rattle.message_text.specs.Algorithms.{IsEncrypted, encrypted_text}
 use Rattle.message_text.specs.CurveKeys.{IsCurveKey as IsCurveFields, ec_key_text}
-use Rattle.message_text.specs.Kerberos.{request_text}
 use Rattle.message_text.specs.Ldap.{ldap_text}
 use Rattle.message_text.specs.PrivateKeys.{IsPrivateKey as IsKeyShown, private_key_text}
 use Rattle.message_text.specs.PublicKeys.{IsPublicKey as IsPublicShown, public_key_text}
@@ -68,8 +67,8 @@ IsPublicKey = Shows (IsKey whole_public_key) key_info_of
 
 -- Messages: of Kerberos by DER, the others by BER.
 
-abbrev pub IsKerberos : List ℕ → Option (List ℕ) → Type 0
-IsKerberos = Shows (Is Der AsReq) request_of (λ x text. text ≡ request_text x)
+abbrev pub IsKerberos : KnownTypes → List ℕ → Option (List ℕ) → Type 0
+IsKerberos types = ShowsByType (λ i. (x : RequestValue) × Is Der AsReq i x) types (codes "AS-REQ")
 
 abbrev pub IsSnmp : KnownTypes → List ℕ → Option (List ℕ) → Type 0
 IsSnmp types = ShowsByType (λ i. (m : SnmpValue) × Is Ber SnmpMessage i m) types (codes "Message")
@@ -88,7 +87,7 @@ abbrev pub FromSnmp : KnownTypes → List ℕ → Option (List ℕ) → Type 0
 FromSnmp types = IsSnmp types ⊳ IsLdap
 
 abbrev pub FromKerberos : KnownTypes → List ℕ → Option (List ℕ) → Type 0
-FromKerberos types = IsKerberos ⊳ FromSnmp types
+FromKerberos types = IsKerberos types ⊳ FromSnmp types
 
 abbrev pub FromPublicKey : KnownTypes → List ℕ → Option (List ℕ) → Type 0
 FromPublicKey types = IsPublicKey ⊳ FromKerberos types

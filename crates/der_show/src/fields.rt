@@ -1,20 +1,24 @@
 //! Inputs of a known type, with the names of their fields.
-ghost use Rattle.std.specs.Prelude.{◌↔◌, IfOk, IsTrue};
+ghost use Rattle.std.specs.Prelude.{◌≡◌, ◌↔◌, IfOk, IsTrue};
 ghost use Rattle.der_schema.specs.Known.{IsOfType};
 ghost use Rattle.der_schema.specs.Meaning.{root_of};
 ghost use Rattle.der_show.specs.FieldLines.{AreWordsFrom};
-ghost use Rattle.der_show.specs.Fields.{AreWordsByFields, IsByFields, IsReadAlone};
+ghost use Rattle.der_show.specs.ByTypes.{AreTypeWords, IsInWords, IsReadFirst, has_title};
+ghost use Rattle.der_show.specs.Fields.{AreWordsByFields, AreWordsOfType, IsByFields, IsReadAlone};
 
 use crate::field_lines::{Written, with_lines};
-use crate::words::Words;
+use crate::words::{Words, words_alone};
 use der_base::rules::Rules;
 use der_known::KnownTypes;
 use der_schema::Schema;
+use der_schema::schema::Component;
+use der_schema::words::Notation;
 use std::alloc::{AllocError, Global};
+use type_words::words_text;
 
-/// A text for octets by the first of these types that they have by BER: the name of the type, a line for each element
-/// with the name of its field, and summaries. A certificate, CRL or certification request among the elements has a
-/// summary, and no lines for the elements in it. A secret value isn't written.
+/// A text for octets by the first of these types that they have by BER: the words of the type, if it has some, or else
+/// its name, a line for each element with the name of its field, and summaries. A certificate, CRL or certification
+/// request among the elements has a summary, and no lines for the elements in it. A secret value isn't written.
 ///
 /// None if the octets have none of these types. None too for a private key, since it is secret, and for a certificate,
 /// CRL or certification request, since its reader has rejected it and `why_unread` says why. AllocError if there is no
@@ -56,6 +60,68 @@ fn is_read_alone(name: &str) -> bool
 
 /// The text for octets that have a type.
 fn words_of_type(
+    alloc: Global,
+    octets: &[u8],
+    schema: Schema<'_>,
+    now: Option<u64>,
+) -> Result<Words, AllocError>
+    ensures { IsOfType (root_of schema.entry) Rules.Ber octets.now
+        → IfOk result (AreWordsOfType now schema.entry octets.now) }
+{
+    if is_in_words(schema) {
+        type_words(alloc, octets, schema)
+    } else {
+        fields_of_type(alloc, octets, schema, now)
+    }
+}
+
+/// Whether the words of a type are shown: it has a title, and no reader has refused the octets.
+fn is_in_words(schema: Schema<'_>) -> bool
+    ensures { IsTrue result ↔ IsInWords schema.entry }
+{
+    has_title(schema.components) && !is_read_first(schema.name)
+}
+
+/// Whether the words of a type begin with a title.
+fn has_title(components: &'static [Component]) -> bool
+    ensures { result ≡ has_title components.now }
+{
+    match components {
+        [first, ..] => match first.words {
+            Some(words) => matches!(words.notation, Notation::Title),
+            None => false,
+        },
+        [] => false,
+    }
+}
+
+/// Whether the type with this name is only shown in words if its reader takes the octets.
+fn is_read_first(name: &str) -> bool
+    ensures { IsTrue result ↔ IsReadFirst name.now }
+{
+    match name {
+        "Message" => true,
+        "LDAPMessage" => true,
+        "AS-REQ" => true,
+        _ => false,
+    }
+}
+
+/// The words of a type for octets that have it.
+fn type_words(
+    alloc: Global,
+    octets: &[u8],
+    schema: Schema<'_>,
+) -> Result<Words, AllocError>
+    ensures { IsOfType (root_of schema.entry) Rules.Ber octets.now
+        → IfOk result (AreTypeWords schema.entry octets.now) }
+{
+    let (text, _end) = words_text(alloc, octets, Rules::Ber, schema)?;
+    Ok(words_alone(text, true))
+}
+
+/// The lines of the fields of octets that have a type, and the summaries.
+fn fields_of_type(
     alloc: Global,
     octets: &[u8],
     schema: Schema<'_>,

@@ -75,7 +75,7 @@ fn from_public_key(alloc: Global, octets: &[u8], types: &KnownTypes) -> Found
 fn from_kerberos(alloc: Global, octets: &[u8], types: &KnownTypes) -> Found
     ensures { IfOk result (λ found. FromKerberos types.now octets.now (text_in found)) }
 {
-    match kerberos_text(alloc, octets) {
+    match kerberos_text(alloc, octets, types) {
         Ok(None) => from_snmp(alloc, octets, types),
         found => found,
     }

@@ -71,7 +71,7 @@ fn other_words(
 }
 
 /// A summary without lines of elements before it.
-fn words_alone(text: Vec<u8>, keeps_rules: bool) -> Words
+pub(crate) fn words_alone(text: Vec<u8>, keeps_rules: bool) -> Words
     ensures text { result.text.items ≡ text.items }
     ensures start { result.words_at ≡ 0 }
     ensures rules { result.keeps_rules ≡ keeps_rules }

@@ -1,6 +1,5 @@
 pub mod Algorithms
 pub mod CurveKeys
-pub mod Kerberos
 pub mod Ldap
 pub mod LdapFilters
 pub mod LdapResults

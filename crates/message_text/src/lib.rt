@@ -1,4 +1,4 @@
-//! Summaries of keys and of LDAP and Kerberos messages: a line `Label: value` for each field, indented by two
+//! Summaries of keys and of LDAP messages: a line `Label: value` for each field, indented by two
 //! columns for each structure around it. Secret numbers of private keys are never written.
 #![tactic(auto)]
 
@@ -6,7 +6,6 @@ mod algorithm;
 mod curve_key;
 mod field;
 mod identifier;
-mod kerberos_request;
 mod ldap_control;
 mod ldap_entry;
 mod ldap_filter;
@@ -20,7 +19,6 @@ mod rsa;
 pub use algorithm::{AlgorithmText, EncryptedKeyText, ParametersText};
 pub use curve_key::EcKeyText;
 pub use identifier::NamedIdentifier;
-pub use kerberos_request::RequestText;
 pub use ldap_message::LdapText;
 pub use private_key::PrivateKeyText;
 pub use public_key::PublicKeyText;

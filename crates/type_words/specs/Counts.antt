@@ -4,9 +4,6 @@ use Rattle.der_base.specs.declared.rules.Rules.TheVariants.{Ber}
 use Rattle.der_elements.specs.declared.refusal.Refusal.{Refusal}
 use Rattle.der_elements.specs.Visits.{Extras, Visited}
 use Rattle.der_elements.specs.Walked.{index_in}
-use Rattle.der_schema.specs.declared.words.Notation.{Notation}
-use Rattle.der_schema.specs.declared.words.Notation.TheVariants.{Count}
-use Rattle.type_words.specs.Items.{Said}
 use Rattle.type_words.specs.Puts.{EndsWith}
 
 -- a walk that doesn't enter strings, and visits values that break their type
@@ -16,11 +13,3 @@ values_kept = record { enters_strings = false; keeps_values = true }
 -- how many elements of BER octets begin with: before the first fault, such as end-of-contents octets (8.1.5), or all
 abbrev pub IsCount : List ℕ → ℕ → Type 0
 IsCount w n = (vs : List Visited) × (end : Option Refusal) × EndsWith values_kept Ber w vs end × (n ≡ index_in 0 vs)
-
-abbrev pub IsCountBy : Notation → List ℕ → ℕ → Type 0
-IsCountBy Count w n = IsCount w n
-IsCountBy notation w n = n ≡ 0
-
--- the number of elements that an item counts, or 0 if it counts none
-abbrev pub IsCountOf : Said → ℕ → Type 0
-IsCountOf x n = IsCountBy x.notation x.octets n

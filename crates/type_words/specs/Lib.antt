@@ -1,5 +1,6 @@
 pub mod Counts
 pub mod Items
+pub mod Joined
 pub mod Laws
 pub mod Lines
 pub mod Places

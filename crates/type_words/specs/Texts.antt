@@ -10,7 +10,7 @@ use Rattle.der_print.specs.Quotes.{quoted_text}
 use Rattle.der_print.specs.Values.{hex_text, identifier_text, is_ascii_text, number_text}
 use Rattle.der_schema.specs.declared.words.Notation.{Notation}
 use Rattle.der_schema.specs.declared.words.Notation.TheVariants.{Word, Number, NumberOf, NameOf, Arcs, Octets, Hex}
-use Rattle.der_schema.specs.declared.words.Notation.TheVariants.{Address}
+use Rattle.der_schema.specs.declared.words.Notation.TheVariants.{Length, Address, Text}
 use Rattle.der_schema.specs.declared.words.NumberName.{NumberName}
 
 -- a space and a name, if there is one
@@ -82,5 +82,7 @@ value_text (NameOf names) w = named_text names.now w
 value_text Arcs w = identifier_text false w
 value_text Octets w = octets_text w
 value_text Hex w = hex_text Whole w
+value_text Length w = count_text (length w)
 value_text Address w = address_text w
+value_text Text w = text_of w
 value_text n w = []

@@ -2,6 +2,7 @@
 #![tactic(auto)]
 
 mod item;
+mod joined;
 pub mod laws;
 mod octets;
 mod places;

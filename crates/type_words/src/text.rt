@@ -1,16 +1,20 @@
 //! Items as lines of text.
 ghost use Rattle.std.specs.Prelude.{◌≡◌, ◌^◌, ◌<◌, [], Some, length};
 ghost use Rattle.std.specs.Fmt.{DisplaysOnOk, IsPlainFormatter};
-ghost use Rattle.type_words.specs.Counts.{IsCount, IsCountOf};
-ghost use Rattle.type_words.specs.Lines.{columns, value_ending};
+ghost use Rattle.der_print.specs.Writes.{WritesOne};
+ghost use Rattle.type_words.specs.Counts.{IsCount};
+ghost use Rattle.type_words.specs.Lines.{IsBehind, IsEnding, IsLine, IsTime, IsValue, columns, front_text};
 ghost use Rattle.type_words.specs.Places.{said};
 ghost use Rattle.type_words.specs.TextLines.{text_in};
 
 use crate::item::{Item, Label, Sink};
+use crate::joined::write_joined;
 use crate::value::Value;
+use der_base::header::Tag;
 use der_base::rules::Rules;
+use der_base::time::read_time;
 use der_elements::Walk;
-use der_print::Arcs;
+use der_print::{Arcs, Moment};
 use der_schema::words::Notation;
 use std::alloc::{AllocError, Global};
 use std::fmt;
@@ -66,34 +70,22 @@ impl Sink for TextLines {
     ghost put_gives = { AddsLine };
 
     fn put(&mut self, item: &Item<'_>) -> Result<(), AllocError> {
-        let count = count_of(item);
-        match self.f.write(Line { item, count }) {
+        match write_line(&mut self.f, item) {
             Ok(()) => Ok(()),
             Err(_) => Err(AllocError),
         }
     }
 }
 
-/// The line of an item, with the number of elements that its notation counts.
-#[derive(Clone, Copy)]
-struct Line<'r, 'a> {
-    item: &'r Item<'a>,
-    count: usize,
-}
-
-impl fmt::Display for Line<'_, '_> {
-    ghost use Rattle.std.specs.Prelude.{Some};
-    ghost use Rattle.type_words.specs.Lines.{line_text};
-    ghost use Rattle.type_words.specs.Places.{said};
-
-    ghost output = { λ x. Some (line_text (said x.item.now) x.count) };
-
-    fn fmt<W: fmt::Write>(&self, f: &mut fmt::Formatter<W>) -> fmt::Result {
-        write_columns(f, self.item.indent)?;
-        let label = LabelText(self.item.label);
-        let ending = Ending(*self);
-        write!(f, "{label}:{ending}\n")
-    }
+/// Writes the line of an item.
+fn write_line<W: fmt::Write>(f: &mut fmt::Formatter<W>, item: &Item<'_>) -> fmt::Result
+    ensures { WritesOne W.Write.write_str_gives f.old result (IsLine (said item.now)) f.new }
+{
+    write_columns(f, item.indent)?;
+    let label = LabelText(item.label);
+    write!(f, "{label}:")?;
+    write_ending(f, item)?;
+    f.write_str("\n")
 }
 
 /// Writes two spaces for each level.
@@ -129,52 +121,77 @@ impl fmt::Display for LabelText<'_> {
     }
 }
 
-/// What is behind the colon of a line: the value after a space, if there is one.
-#[derive(Clone, Copy)]
-struct Ending<'r, 'a>(Line<'r, 'a>);
-
-impl fmt::Display for Ending<'_, '_> {
-    ghost use Rattle.std.specs.Prelude.{Some};
-    ghost use Rattle.type_words.specs.Lines.{ending_text};
-    ghost use Rattle.type_words.specs.Places.{said};
-
-    ghost output = { λ x. Some (ending_text (said x.0.item.now) x.0.count) };
-
-    fn fmt<W: fmt::Write>(&self, f: &mut fmt::Formatter<W>) -> fmt::Result {
-        let Line { item, count } = self.0;
-        match item.notation {
-            Notation::Title => Ok(()),
-            Notation::Count => write!(f, " {count}"),
-            notation => write_value(f, item.kind, notation, item.octets),
-        }
+/// Writes what is behind the colon of a line: nothing after a title, or else the value after a space.
+fn write_ending<W: fmt::Write>(f: &mut fmt::Formatter<W>, item: &Item<'_>) -> fmt::Result
+    ensures { WritesOne W.Write.write_str_gives f.old result (IsEnding (said item.now)) f.new }
+{
+    match item.notation {
+        Notation::Title => Ok(()),
+        notation => write_behind(f, item.kind, notation, item.octets),
     }
 }
 
-/// Writes a value after a space and what is in front of it.
-fn write_value<W: fmt::Write>(
+/// Writes a value behind a space and what is in front of it.
+fn write_behind<W: fmt::Write>(
     f: &mut fmt::Formatter<W>,
     kind: &str,
     notation: Notation,
     octets: &[u8],
 ) -> fmt::Result
-    ensures { DisplaysOnOk W.Write.write_str_gives f.old result
-        (Some (value_ending kind.now notation octets.now)) f.new }
+    ensures { WritesOne W.Write.write_str_gives f.old result (IsBehind kind.now notation octets.now) f.new }
 {
-    let value = Value { notation, octets };
+    write_front(f, kind)?;
+    write_value(f, notation, octets)
+}
+
+/// Writes a space, and what is in front of a value, if there is something, with a space after it.
+fn write_front<W: fmt::Write>(f: &mut fmt::Formatter<W>, kind: &str) -> fmt::Result
+    ensures { DisplaysOnOk W.Write.write_str_gives f.old result (Some (front_text kind.now)) f.new }
+{
     if kind.is_empty() {
-        write!(f, " {value}")
+        f.write_str(" ")
     } else {
-        write!(f, " {kind} {value}")
+        write!(f, " {kind} ")
     }
 }
 
-/// How many elements are in the content octets, if the notation counts them, or else 0.
-fn count_of(item: &Item<'_>) -> usize
-    ensures { IsCountOf (said item.now) result }
+/// Writes a value.
+fn write_value<W: fmt::Write>(
+    f: &mut fmt::Formatter<W>,
+    notation: Notation,
+    octets: &[u8],
+) -> fmt::Result
+    ensures { WritesOne W.Write.write_str_gives f.old result (IsValue notation octets.now) f.new }
 {
-    match item.notation {
-        Notation::Count => count_in(item.octets),
-        _ => 0,
+    match notation {
+        Notation::Count => {
+            let count = count_in(octets);
+            write!(f, "{count}")
+        }
+        Notation::Joined => write_joined(f, octets),
+        Notation::GeneralizedTime => write_time(f, octets),
+        notation => {
+            let value = Value { notation, octets };
+            write!(f, "{value}")
+        }
+    }
+}
+
+/// Writes the time of a GeneralizedTime, or its text in quotes if it is none.
+fn write_time<W: fmt::Write>(f: &mut fmt::Formatter<W>, octets: &[u8]) -> fmt::Result
+    ensures { WritesOne W.Write.write_str_gives f.old result (IsTime octets.now) f.new }
+{
+    match read_time(Tag::GeneralizedTime, octets) {
+        Some(time) => {
+            let is_utc_time = false;
+            let moment = Moment { time, is_utc_time };
+            write!(f, "{moment}")
+        }
+        None => {
+            let notation = Notation::Text;
+            let text = Value { notation, octets };
+            write!(f, "{text}")
+        }
     }
 }
 

@@ -4,7 +4,7 @@ ghost use Rattle.std.specs.Fmt.{DisplaysOnOk};
 ghost use Rattle.std.specs.Option.{option_copied};
 ghost use Rattle.type_words.specs.Texts.{name_among, name_of, named_text, number_named};
 
-use crate::octets::{Octets, digits};
+use crate::octets::{Count, Octets, digits, quoted};
 use der_base::integer::read_u64;
 use der_print::{Arcs, Limit, Number};
 use der_schema::words::{Notation, NumberName};
@@ -46,9 +46,17 @@ impl fmt::Display for Value<'_> {
                 let hex = digits(octets);
                 write!(f, "{hex}")
             }
+            Notation::Length => {
+                let count = Count(octets.len());
+                write!(f, "{count}")
+            }
             Notation::Address => {
                 let address = Address(octets);
                 write!(f, "{address}")
+            }
+            Notation::Text => {
+                let text = quoted(octets);
+                write!(f, "{text}")
             }
             _ => Ok(()),
         }

@@ -1,5 +1,5 @@
 //! Prints messages that others wrote, of the kind that the third argument names. With `fields` as the second it prints
-//! what the readers return, field by field, and with `words` the texts of message_text. What is refused is printed too:
+//! what the readers return, field by field, and with `words` the texts of `show`. What is refused is printed too:
 //! the field, the offset and the reason.
 
 mod key_fields;
@@ -8,7 +8,7 @@ mod packets;
 mod request_fields;
 
 use crate::messages::keys::{Printed, print_keys};
-use crate::messages::packets::{print_ldap, print_names, print_request, print_snmp};
+use crate::messages::packets::{print_ldap, print_names, print_request, print_snmp, print_types};
 use anyhow::{Context, Result, bail};
 use std::env;
 use std::io::Read;
@@ -43,6 +43,7 @@ fn print_messages(rt: &HostRuntime) -> Result<()> {
         "kerberos" => print_request(rt, &input, printed),
         "snmp" => print_snmp(rt, &input, printed),
         "ldap" => print_ldap(rt, &input, printed),
+        "types" => print_types(rt, &input),
         other => bail!("{other} is no kind of messages"),
     }
 }

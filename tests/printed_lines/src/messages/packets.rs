@@ -5,9 +5,10 @@ use anyhow::{Context, Result, anyhow};
 use der_base::rules::Rules;
 use der_known::KnownTypes;
 use extension_text::names::NameText;
-use message_text::{LdapText, RequestText};
+use message_text::LdapText;
 use messages::kerberos::read_request;
 use std::io::Write;
+use std::str;
 use test_ldap_stream::print_messages;
 use type_words::words_text;
 use x509::read_certificate;
@@ -26,7 +27,7 @@ pub fn print_request(rt: &HostRuntime, input: &[u8], printed: Printed) -> Result
     let request = read_request(rt.alloc(), input)?;
     match printed {
         Printed::Fields => print!(rt; "{}", Requested(&request))?,
-        Printed::Words => print!(rt; "{}", RequestText { request: &request })?,
+        Printed::Words => print_words(rt, input, "AS-REQ")?,
     }
     Ok(())
 }
@@ -59,6 +60,16 @@ fn print_words(rt: &HostRuntime, octets: &[u8], name: &str) -> Result<()> {
     rt.stdout().write_all(&text)?;
     if let Some(refusal) = end {
         println!(rt; "refused at {}", refusal.offset)?;
+    }
+    Ok(())
+}
+
+/// Prints the octets of each line by the words of a known type, whose name is before their digits.
+pub fn print_types(rt: &HostRuntime, input: &[u8]) -> Result<()> {
+    for line in str::from_utf8(input)?.lines() {
+        let (name, digits) = line.split_once(' ').context("a type and octets")?;
+        let octets = hex::decode(rt.alloc(), digits)?;
+        print_words(rt, &octets, name)?;
     }
     Ok(())
 }

@@ -1,17 +1,10 @@
-use Rattle.std.proofs.Common.{refl}
+use Rattle.std.proofs.Common.{ap}
+use Rattle.std.specs.Result.{is_ok}
 use Rattle.std.proofs.lemmas.Fmt.{contents_after_writes}
-use Rattle.type_words.specs.Lines.{line_text}
-use Rattle.type_words.specs.Places.{said}
 use Rattle.type_words.specs.TextLines.{octets_in}
 use Rattle.type_words.proofs.text.TextLinesSink.put.Goals as goal
 
 pub returns-in-Ok : goal.returns-in-Ok
 returns-in-Ok c plain =
-    let count = c.count_of-count.result in
-    let line = line_text (said c.args.item.now) count in
-    let done = c.in-Ok.ensures.writes plain refl in (
-      line,
-      (count, c.count_of-count.ensures, refl),
-      done.plain,
-      contents_after_writes _ octets_in (λ _ _ _ t. t) _ line _ done.wrote,
-    )
+    let done = c.write_line.ensures plain (ap is_ok c.in-Ok.is) in
+    (done.0, done.1, done.2.plain, contents_after_writes _ octets_in (λ _ _ _ t. t) _ done.0 _ done.2.wrote)
