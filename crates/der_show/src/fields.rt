@@ -99,20 +99,11 @@ fn has_title(components: &'static [Component]) -> bool
 fn is_read_first(name: &str) -> bool
     ensures { IsTrue result ↔ IsReadFirst name.now }
 {
-    match name {
-        "Message" => true,
-        "LDAPMessage" => true,
-        "AS-REQ" => true,
-        _ => false,
-    }
+    matches!(name, "Message" | "LDAPMessage" | "AS-REQ")
 }
 
 /// The words of a type for octets that have it.
-fn type_words(
-    alloc: Global,
-    octets: &[u8],
-    schema: Schema<'_>,
-) -> Result<Words, AllocError>
+fn type_words(alloc: Global, octets: &[u8], schema: Schema<'_>) -> Result<Words, AllocError>
     ensures { IsOfType (root_of schema.entry) Rules.Ber octets.now
         → IfOk result (AreTypeWords schema.entry octets.now) }
 {

@@ -1,2 +1,15 @@
-use Rattle.std.proofs.Common.{◌≡◌, List, ℕ, Option, Some, None, absurd}
+use Rattle.std.proofs.Common.{subst, sym}
+use Rattle.type_words.specs.Lines.{AreLines}
+use Rattle.der_show.proofs.TypeLaws.{all_visited}
 use Rattle.der_show.proofs.fields.type_words.Goals as goal
+
+pub returns : goal.returns
+returns c = λ t.
+    let found = c.in_ok-text.ensures in
+    let made = c.words_alone.ensures in record {
+      elements = found.0;
+      visits = all_visited found.0 _ t found.1;
+      lines = subst (AreLines _) (sym made.text) found.2;
+      start = made.start;
+      rules = made.rules;
+    }
