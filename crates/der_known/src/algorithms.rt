@@ -73,7 +73,7 @@ const RSAES_OAEP: Type = sequence![
     optional!("pSourceFunc" explicit!(2 field!("" DIGEST_ALGORITHM))),
 ];
 
-/// The parameters of PBES1 and of PKCS #12's ciphers (RFC 8018 A.3, RFC 7292 C).
+/// The parameters of PBES1 (RFC 8018 A.3).
 static PASSWORD_BASED_TYPE: Component = field!("pbeParameter" sequence![
     field!("salt" OCTET_STRING),
     field!("iterationCount" INTEGER)
@@ -82,6 +82,12 @@ static PASSWORD_BASED_TYPE: Component = field!("pbeParameter" sequence![
 fn password_based() -> &'static Component {
     &PASSWORD_BASED_TYPE
 }
+
+/// The parameters of PKCS #12's ciphers (RFC 7292 C).
+const PKCS12_PASSWORD_BASED: Type = sequence![
+    field!("salt" OCTET_STRING),
+    field!("iterations" INTEGER)
+];
 
 /// GCMParameters (RFC 5084 3.2).
 static GCM_TYPE: Component = field!("gcmParameters" sequence![
@@ -140,8 +146,8 @@ const PARAMETERS: &[Selection] = &[
     selection!(b"\x2a\x86\x48\x86\xf7\x0d\x01\x05\x03" field!("" PASSWORD_BASED)),
     selection!(b"\x2a\x86\x48\x86\xf7\x0d\x01\x05\x0a" field!("" PASSWORD_BASED)),
     // pbeWithSHAAnd3-KeyTripleDES-CBC, pbeWithSHAAnd40BitRC2-CBC
-    selection!(b"\x2a\x86\x48\x86\xf7\x0d\x01\x0c\x01\x03" field!("" PASSWORD_BASED)),
-    selection!(b"\x2a\x86\x48\x86\xf7\x0d\x01\x0c\x01\x06" field!("" PASSWORD_BASED)),
+    selection!(b"\x2a\x86\x48\x86\xf7\x0d\x01\x0c\x01\x03" field!("" PKCS12_PASSWORD_BASED)),
+    selection!(b"\x2a\x86\x48\x86\xf7\x0d\x01\x0c\x01\x06" field!("" PKCS12_PASSWORD_BASED)),
     // id-aes128-GCM, id-aes192-GCM, id-aes256-GCM
     selection!(b"\x60\x86\x48\x01\x65\x03\x04\x01\x06" field!("" GCM)),
     selection!(b"\x60\x86\x48\x01\x65\x03\x04\x01\x1a" field!("" GCM)),

@@ -35,9 +35,16 @@ fn encapsulated_content() -> &'static Component {
     &ENCAPSULATED_CONTENT_TYPE
 }
 
-const OTHER_FORMAT: Inside = Inside::Components(&[
-    field!("otherFormat" OBJECT_IDENTIFIER),
-    field!("other" Type::Any),
+/// An OtherCertificateFormat (RFC 5652 10.2.2).
+const OTHER_CERTIFICATE: Inside = Inside::Components(&[
+    field!("otherCertFormat" OBJECT_IDENTIFIER),
+    field!("otherCert" Type::Any),
+]);
+
+/// An OtherRevocationInfoFormat (RFC 5652 10.2.1).
+const OTHER_REVOCATION: Inside = Inside::Components(&[
+    field!("otherRevInfoFormat" OBJECT_IDENTIFIER),
+    field!("otherRevInfo" Type::Any),
 ]);
 
 /// A CertificateChoices (RFC 5652 10.2.2).
@@ -50,7 +57,7 @@ static CERTIFICATE_CHOICE_TYPE: Component = field!("certificateChoices" Type::Ch
         field!("signatureAlgorithm" SIGNATURE_ALGORITHM),
         field!("signatureValue" SIGNATURE),
     ]))),
-    field!("other" implicit!(3 OTHER_FORMAT)),
+    field!("other" implicit!(3 OTHER_CERTIFICATE)),
 ]));
 
 fn certificate_choice() -> &'static Component {
@@ -62,7 +69,7 @@ pub(crate) const CERTIFICATES: Inside = Inside::Each(&field!("" CERTIFICATE_CHOI
 /// A RevocationInfoChoice (RFC 5652 10.2.1).
 static REVOCATION_CHOICE_TYPE: Component = field!("revocationInfoChoice" Type::Choice(&[
     field!("crl" CERTIFICATE_LIST_SEQUENCE),
-    field!("other" implicit!(1 OTHER_FORMAT)),
+    field!("other" implicit!(1 OTHER_REVOCATION)),
 ]));
 
 fn revocation_choice() -> &'static Component {

@@ -105,7 +105,7 @@ const OPERATIONS: Type = Type::Choice(&[
     field!("searchRequest" tagged!(Application 3 Constructed SEARCH_REQUEST)),
     field!("searchResEntry" tagged!(Application 4 Constructed Inside::Components(&[
         field!("objectName" OCTET_STRING),
-        field!("attributes" ATTRIBUTES),
+        field!("attributes" sequence_of!(field!("partialAttribute" ATTRIBUTE))),
     ]))),
     field!("searchResDone" tagged!(Application 5 Constructed RESULT)),
     field!("searchResRef" tagged!(Application 19 Constructed Inside::Each(&field!("uri" OCTET_STRING)))),
