@@ -1,9 +1,6 @@
 pub mod Algorithms
 pub mod CurveKeys
 pub mod Kerberos
-pub mod Ldap
-pub mod LdapFilters
-pub mod LdapResults
 pub mod PrivateKeys
 pub mod PublicKeys
 pub mod RsaKeys

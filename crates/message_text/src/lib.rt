@@ -1,5 +1,5 @@
-//! Summaries of keys and of LDAP and Kerberos messages: a line `Label: value` for each field, indented by two
-//! columns for each structure around it. Secret numbers of private keys are never written.
+//! Summaries of keys and of Kerberos messages: a line `Label: value` for each field, indented by two columns for each
+//! structure around it. Secret numbers of private keys are never written.
 #![tactic(auto)]
 
 mod algorithm;
@@ -7,12 +7,6 @@ mod curve_key;
 mod field;
 mod identifier;
 mod kerberos_request;
-mod ldap_control;
-mod ldap_entry;
-mod ldap_filter;
-mod ldap_message;
-mod ldap_result;
-mod ldap_search;
 mod private_key;
 mod public_key;
 mod rsa;
@@ -21,7 +15,6 @@ pub use algorithm::{AlgorithmText, EncryptedKeyText, ParametersText};
 pub use curve_key::EcKeyText;
 pub use identifier::NamedIdentifier;
 pub use kerberos_request::RequestText;
-pub use ldap_message::LdapText;
 pub use private_key::PrivateKeyText;
 pub use public_key::PublicKeyText;
 pub use rsa::RsaKeyText;

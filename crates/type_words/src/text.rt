@@ -6,12 +6,14 @@ ghost use Rattle.type_words.specs.Lines.{columns, value_ending};
 ghost use Rattle.type_words.specs.Places.{said};
 ghost use Rattle.type_words.specs.TextLines.{text_in};
 
+use crate::filter::{FilterText, filter_of};
 use crate::item::{Item, Label, Sink};
 use crate::value::Value;
 use der_base::rules::Rules;
 use der_elements::Walk;
 use der_print::Arcs;
 use der_schema::words::Notation;
+use messages::ldap::FilterPart;
 use std::alloc::{AllocError, Global};
 use std::fmt;
 
@@ -38,6 +40,7 @@ impl fmt::Write for Text {
 #[derive(Drop)]
 pub struct TextLines {
     f: fmt::Formatter<Text>,
+    alloc: Global,
 }
 
 impl TextLines {
@@ -49,6 +52,7 @@ impl TextLines {
         let octets = Vec::new(alloc);
         TextLines {
             f: fmt::Formatter::new(Text { octets }),
+            alloc,
         }
     }
 
@@ -67,18 +71,25 @@ impl Sink for TextLines {
 
     fn put(&mut self, item: &Item<'_>) -> Result<(), AllocError> {
         let count = count_of(item);
-        match self.f.write(Line { item, count }) {
+        let parts = filter_of(self.alloc, item)?;
+        let filter = parts.as_slice();
+        match self.f.write(Line {
+            item,
+            count,
+            filter,
+        }) {
             Ok(()) => Ok(()),
             Err(_) => Err(AllocError),
         }
     }
 }
 
-/// The line of an item, with the number of elements that its notation counts.
+/// The line of an item, with the number of elements that its notation counts and the filter that it reads.
 #[derive(Clone, Copy)]
 struct Line<'r, 'a> {
     item: &'r Item<'a>,
     count: usize,
+    filter: &'r [FilterPart<'a>],
 }
 
 impl fmt::Display for Line<'_, '_> {
@@ -86,7 +97,7 @@ impl fmt::Display for Line<'_, '_> {
     ghost use Rattle.type_words.specs.Lines.{line_text};
     ghost use Rattle.type_words.specs.Places.{said};
 
-    ghost output = { λ x. Some (line_text (said x.item.now) x.count) };
+    ghost output = { λ x. Some (line_text (said x.item.now) x.count x.filter.now) };
 
     fn fmt<W: fmt::Write>(&self, f: &mut fmt::Formatter<W>) -> fmt::Result {
         write_columns(f, self.item.indent)?;
@@ -138,13 +149,21 @@ impl fmt::Display for Ending<'_, '_> {
     ghost use Rattle.type_words.specs.Lines.{ending_text};
     ghost use Rattle.type_words.specs.Places.{said};
 
-    ghost output = { λ x. Some (ending_text (said x.0.item.now) x.0.count) };
+    ghost output = { λ x. Some (ending_text (said x.0.item.now) x.0.count x.0.filter.now) };
 
     fn fmt<W: fmt::Write>(&self, f: &mut fmt::Formatter<W>) -> fmt::Result {
-        let Line { item, count } = self.0;
+        let Line {
+            item,
+            count,
+            filter,
+        } = self.0;
         match item.notation {
             Notation::Title => Ok(()),
             Notation::Count => write!(f, " {count}"),
+            Notation::Filter => {
+                let text = FilterText(filter);
+                write!(f, " {text}")
+            }
             notation => write_value(f, item.kind, notation, item.octets),
         }
     }

@@ -5,7 +5,7 @@ use anyhow::{Context, Result, anyhow};
 use der_base::rules::Rules;
 use der_known::KnownTypes;
 use extension_text::names::NameText;
-use message_text::{LdapText, RequestText};
+use message_text::RequestText;
 use messages::kerberos::read_request;
 use std::io::Write;
 use test_ldap_stream::print_messages;
@@ -77,8 +77,8 @@ pub fn print_ldap(rt: &HostRuntime, input: &[u8], printed: Printed) -> Result<()
         }
         let offset = input.len().saturating_sub(rest.len());
         let read = messages::ldap::read_message(rt.alloc(), rest);
-        let (after, message) = read.map_err(|e| anyhow!("message at {offset}: {e}"))?;
-        print!(rt; "{}", LdapText { message: &message })?;
+        let (after, _) = read.map_err(|e| anyhow!("message at {offset}: {e}"))?;
+        print_words(rt, &rest[..rest.len() - after.len()], "LDAPMessage")?;
         rest = after;
     }
     Ok(())

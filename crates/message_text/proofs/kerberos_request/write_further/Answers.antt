@@ -2,7 +2,7 @@ use Rattle.std.proofs.Common.{List, ℕ, refl, sym, take}
 use Rattle.std.proofs.lemmas.Grind.{put_two}
 use Rattle.std.specs.Borrow.{Bor}
 use Rattle.message_text.specs.Kerberos.{further_component, further_components}
-use Rattle.message_text.proofs.Texts.{each_more}
+use Rattle.type_words.proofs.TextLaws.{each_more}
 use Rattle.message_text.proofs.kerberos_request.write_further.Goals as goal
 
 pub loop-component-preserved : goal.loop-component-preserved

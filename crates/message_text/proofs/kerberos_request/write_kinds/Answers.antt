@@ -1,7 +1,7 @@
 use Rattle.std.proofs.Common.{refl, sym, take}
 use Rattle.std.proofs.lemmas.Grind.{put_two}
 use Rattle.message_text.specs.Kerberos.{kind_text, kinds_text}
-use Rattle.message_text.proofs.Texts.{each_more}
+use Rattle.type_words.proofs.TextLaws.{each_more}
 use Rattle.message_text.proofs.kerberos_request.write_kinds.Goals as goal
 
 pub loop-kind-preserved : goal.loop-kind-preserved

@@ -1,7 +1,7 @@
 use Rattle.std.proofs.Common.{Some, codes, refl}
 use Rattle.std.proofs.Output.{has_written_append, has_written_of_eq}
 use Rattle.message_text.specs.Kerberos.{time_text}
-use Rattle.message_text.proofs.Texts.{three}
+use Rattle.type_words.proofs.TextLaws.{three}
 use Rattle.message_text.proofs.kerberos_request.write_times.Goals as goal
 
 pub returns : goal.returns

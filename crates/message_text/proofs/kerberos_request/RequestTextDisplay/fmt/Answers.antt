@@ -2,7 +2,7 @@ use Rattle.std.proofs.Common.{◌≡◌, ◌++◌, List, ℤ, codes, refl}
 use Rattle.std.proofs.Output.{has_written_append, has_written_of_eq}
 use Rattle.messages.specs.declared.kerberos.request.Request.{Request}
 use Rattle.message_text.specs.Kerberos.{kinds_text, names_text, request_text, times_text}
-use Rattle.message_text.proofs.Texts.{four}
+use Rattle.type_words.proofs.TextLaws.{four}
 use Rattle.message_text.proofs.kerberos_request.RequestTextDisplay.fmt.Goals as goal
 
 shown : (r : Request) (kinds : List ℤ) → kinds ≡ r.encryption_kinds.items → codes "Kerberos request (AS-REQ):\n" ++ (names_text r ++ (times_text r ++ kinds_text kinds)) ≡ request_text r
