@@ -2,13 +2,16 @@
 use crate::numbered::FILTER;
 use crate::universal::{BOOLEAN, ENUMERATED, INTEGER, OCTET_STRING};
 use der_schema::schema::{Component, Inside, Type};
-use der_schema::{explicit, field, implicit, optional, sequence, sequence_of, set_of, tagged};
+use der_schema::words::NumberName;
+use der_schema::{
+    explicit, field, implicit, names, optional, sequence, sequence_of, set_of, tagged,
+};
 
 const FILTERS: Inside = Inside::Each(&field!("" FILTER));
 
 const ASSERTION: Inside = Inside::Components(&[
-    field!("attributeDesc" OCTET_STRING),
-    field!("assertionValue" OCTET_STRING),
+    field!("attributeDesc" OCTET_STRING => "Attribute" Text),
+    field!("assertionValue" OCTET_STRING => "Value" Text),
 ]);
 
 /// A Filter (RFC 4511 4.5.1).
@@ -41,124 +44,149 @@ fn filter() -> &'static Component {
     &FILTER_TYPE
 }
 
+/// The names of resultCode (RFC 4511 4.1.9).
+const RESULTS: &[NumberName] = names![
+    0 "success", 1 "operationsError", 2 "protocolError", 3 "timeLimitExceeded", 4 "sizeLimitExceeded",
+    5 "compareFalse", 6 "compareTrue", 7 "authMethodNotSupported", 8 "strongerAuthRequired", 10 "referral",
+    11 "adminLimitExceeded", 12 "unavailableCriticalExtension", 13 "confidentialityRequired",
+    14 "saslBindInProgress", 16 "noSuchAttribute", 17 "undefinedAttributeType", 18 "inappropriateMatching",
+    19 "constraintViolation", 20 "attributeOrValueExists", 21 "invalidAttributeSyntax", 32 "noSuchObject",
+    33 "aliasProblem", 34 "invalidDNSyntax", 36 "aliasDereferencingProblem", 48 "inappropriateAuthentication",
+    49 "invalidCredentials", 50 "insufficientAccessRights", 51 "busy", 52 "unavailable", 53 "unwillingToPerform",
+    54 "loopDetect", 64 "namingViolation", 65 "objectClassViolation", 66 "notAllowedOnNonLeaf", 67 "notAllowedOnRDN",
+    68 "entryAlreadyExists", 69 "objectClassModsProhibited", 71 "affectsMultipleDSAs", 80 "other",
+];
+
 /// The components of an LDAPResult (RFC 4511 4.1.9).
-const RESULT_CODE: Component = field!("resultCode" ENUMERATED);
+const RESULT_CODE: Component = field!("resultCode" ENUMERATED => "Result" NumberOf(RESULTS));
 
-const MATCHED: Component = field!("matchedDN" OCTET_STRING);
+const MATCHED: Component = field!("matchedDN" OCTET_STRING => "Matched name" Text);
 
-const DIAGNOSTIC: Component = field!("diagnosticMessage" OCTET_STRING);
+const DIAGNOSTIC: Component = field!("diagnosticMessage" OCTET_STRING => "Diagnostic message" Text);
 
-const REFERRAL: Component =
-    optional!("referral" implicit!(3 Inside::Each(&field!("uri" OCTET_STRING))));
+const REFERRAL: Component = optional!("referral" implicit!(3 Inside::Each(
+    &field!("uri" OCTET_STRING => "Referral" Text)
+)));
 
 const RESULT: Inside = Inside::Components(&[RESULT_CODE, MATCHED, DIAGNOSTIC, REFERRAL]);
 
 const ATTRIBUTE: Type = sequence![
-    field!("type" OCTET_STRING),
-    field!("vals" set_of!(field!("value" OCTET_STRING))),
+    field!("type" OCTET_STRING => "Attribute" Text heads),
+    field!("vals" set_of!(field!("value" OCTET_STRING => "Value" TextOrHex))),
 ];
 
 const ATTRIBUTES: Type = sequence_of!(field!("attribute" ATTRIBUTE));
 
 const BIND_REQUEST: Inside = Inside::Components(&[
-    field!("version" INTEGER),
-    field!("name" OCTET_STRING),
+    field!("version" INTEGER => "Version" Number),
+    field!("name" OCTET_STRING => "Name" Text),
     field!("authentication" Type::Choice(&[
         field!("simple" implicit!(0 string)),
         field!("sasl" implicit!(3 Inside::Components(&[
-            field!("mechanism" OCTET_STRING),
+            field!("mechanism" OCTET_STRING => "Mechanism" Text),
             optional!("credentials" OCTET_STRING),
         ]))),
     ])),
 ]);
 
+const SCOPES: &[NumberName] = names![0 "baseObject", 1 "singleLevel", 2 "wholeSubtree"];
+
+const ALIASES: &[NumberName] = names![
+    0 "neverDerefAliases", 1 "derefInSearching", 2 "derefFindingBaseObj", 3 "derefAlways",
+];
+
 const SEARCH_REQUEST: Inside = Inside::Components(&[
-    field!("baseObject" OCTET_STRING),
-    field!("scope" ENUMERATED),
-    field!("derefAliases" ENUMERATED),
-    field!("sizeLimit" INTEGER),
-    field!("timeLimit" INTEGER),
-    field!("typesOnly" BOOLEAN),
-    field!("filter" FILTER),
-    field!("attributes" sequence_of!(field!("selector" OCTET_STRING))),
+    field!("baseObject" OCTET_STRING => "Name" Text),
+    field!("scope" ENUMERATED => "Scope" NumberOf(SCOPES)),
+    field!("derefAliases" ENUMERATED => "Aliases" NumberOf(ALIASES)),
+    field!("sizeLimit" INTEGER => "Size limit" Number),
+    field!("timeLimit" INTEGER => "Time limit" Number),
+    field!("typesOnly" BOOLEAN => "Types only" Boolean),
+    field!("filter" FILTER => "Filter" Filter),
+    field!("attributes" sequence_of!(field!("selector" OCTET_STRING => "Attribute" Text))),
 ]);
 
+/// The names of a change's operation (RFC 4511 4.6, RFC 4525 3).
+const CHANGES: &[NumberName] = names![0 "add", 1 "delete", 2 "replace", 3 "increment"];
+
 const MODIFY_REQUEST: Inside = Inside::Components(&[
-    field!("object" OCTET_STRING),
+    field!("object" OCTET_STRING => "Name" Text),
     field!("changes" sequence_of!(field!("change" sequence![
-        field!("operation" ENUMERATED),
+        field!("operation" ENUMERATED => "Change" NumberOf(CHANGES)),
         field!("modification" ATTRIBUTE),
     ]))),
 ]);
 
 /// The operations (RFC 4511 4.1.1).
 const OPERATIONS: Type = Type::Choice(&[
-    field!("bindRequest" tagged!(Application 0 Constructed BIND_REQUEST)),
+    field!("bindRequest" tagged!(Application 0 Constructed BIND_REQUEST) => "Operation" Word("BindRequest")),
     field!("bindResponse" tagged!(Application 1 Constructed Inside::Components(&[
         RESULT_CODE,
         MATCHED,
         DIAGNOSTIC,
         REFERRAL,
         optional!("serverSaslCreds" implicit!(7 string)),
-    ]))),
-    field!("unbindRequest" tagged!(Application 2 Primitive Inside::Free)),
-    field!("searchRequest" tagged!(Application 3 Constructed SEARCH_REQUEST)),
+    ])) => "Operation" Word("BindResponse")),
+    field!("unbindRequest" tagged!(Application 2 Primitive Inside::Free) => "Operation" Word("UnbindRequest")),
+    field!("searchRequest" tagged!(Application 3 Constructed SEARCH_REQUEST) => "Operation" Word("SearchRequest")),
     field!("searchResEntry" tagged!(Application 4 Constructed Inside::Components(&[
-        field!("objectName" OCTET_STRING),
+        field!("objectName" OCTET_STRING => "Name" Text),
         field!("attributes" sequence_of!(field!("partialAttribute" ATTRIBUTE))),
-    ]))),
-    field!("searchResDone" tagged!(Application 5 Constructed RESULT)),
-    field!("searchResRef" tagged!(Application 19 Constructed Inside::Each(&field!("uri" OCTET_STRING)))),
-    field!("modifyRequest" tagged!(Application 6 Constructed MODIFY_REQUEST)),
-    field!("modifyResponse" tagged!(Application 7 Constructed RESULT)),
+    ])) => "Operation" Word("SearchResultEntry")),
+    field!("searchResDone" tagged!(Application 5 Constructed RESULT) => "Operation" Word("SearchResultDone")),
+    field!("searchResRef" tagged!(Application 19 Constructed Inside::Each(
+        &field!("uri" OCTET_STRING => "Reference" Text)
+    )) => "Operation" Word("SearchResultReference")),
+    field!("modifyRequest" tagged!(Application 6 Constructed MODIFY_REQUEST) => "Operation" Word("ModifyRequest")),
+    field!("modifyResponse" tagged!(Application 7 Constructed RESULT) => "Operation" Word("ModifyResponse")),
     field!("addRequest" tagged!(Application 8 Constructed Inside::Components(&[
-        field!("entry" OCTET_STRING),
+        field!("entry" OCTET_STRING => "Name" Text),
         field!("attributes" ATTRIBUTES),
-    ]))),
-    field!("addResponse" tagged!(Application 9 Constructed RESULT)),
-    field!("delRequest" tagged!(Application 10 Either Inside::Free)),
-    field!("delResponse" tagged!(Application 11 Constructed RESULT)),
+    ])) => "Operation" Word("AddRequest")),
+    field!("addResponse" tagged!(Application 9 Constructed RESULT) => "Operation" Word("AddResponse")),
+    field!("delRequest" tagged!(Application 10 Either Inside::Free) => "Operation" "DelRequest" Text),
+    field!("delResponse" tagged!(Application 11 Constructed RESULT) => "Operation" Word("DelResponse")),
     field!("modDNRequest" tagged!(Application 12 Constructed Inside::Components(&[
-        field!("entry" OCTET_STRING),
-        field!("newrdn" OCTET_STRING),
-        field!("deleteoldrdn" BOOLEAN),
-        optional!("newSuperior" implicit!(0 string)),
-    ]))),
-    field!("modDNResponse" tagged!(Application 13 Constructed RESULT)),
+        field!("entry" OCTET_STRING => "Name" Text),
+        field!("newrdn" OCTET_STRING => "New name" Text),
+        field!("deleteoldrdn" BOOLEAN => "Delete old name" Boolean),
+        optional!("newSuperior" implicit!(0 string) => "New superior" Text),
+    ])) => "Operation" Word("ModifyDNRequest")),
+    field!("modDNResponse" tagged!(Application 13 Constructed RESULT) => "Operation" Word("ModifyDNResponse")),
     field!("compareRequest" tagged!(Application 14 Constructed Inside::Components(&[
-        field!("entry" OCTET_STRING),
+        field!("entry" OCTET_STRING => "Name" Text),
         field!("ava" tagged!(Universal 16 Constructed ASSERTION)),
-    ]))),
-    field!("compareResponse" tagged!(Application 15 Constructed RESULT)),
-    field!("abandonRequest" tagged!(Application 16 Primitive Inside::Free)),
+    ])) => "Operation" Word("CompareRequest")),
+    field!("compareResponse" tagged!(Application 15 Constructed RESULT) => "Operation" Word("CompareResponse")),
+    field!("abandonRequest" tagged!(Application 16 Primitive Inside::Free) => "Operation" "AbandonRequest" Number),
     field!("extendedReq" tagged!(Application 23 Constructed Inside::Components(&[
-        field!("requestName" implicit!(0 string)),
+        field!("requestName" implicit!(0 string) => "OID" Text),
         optional!("requestValue" implicit!(1 string)),
-    ]))),
+    ])) => "Operation" Word("ExtendedRequest")),
     field!("extendedResp" tagged!(Application 24 Constructed Inside::Components(&[
         RESULT_CODE,
         MATCHED,
         DIAGNOSTIC,
         REFERRAL,
-        optional!("responseName" implicit!(10 string)),
+        optional!("responseName" implicit!(10 string) => "OID" Text),
         optional!("responseValue" implicit!(11 string)),
-    ]))),
+    ])) => "Operation" Word("ExtendedResponse")),
     field!("intermediateResponse" tagged!(Application 25 Constructed Inside::Components(&[
-        optional!("responseName" implicit!(0 string)),
+        optional!("responseName" implicit!(0 string) => "OID" Text),
         optional!("responseValue" implicit!(1 string)),
-    ]))),
+    ])) => "Operation" Word("IntermediateResponse")),
 ]);
 
 /// A message of LDAP (RFC 4511 4.1.1).
 static LDAP_MESSAGE_TYPE: Component = field!("ldapMessage" sequence![
-    field!("messageID" INTEGER),
+    field!("messageID" INTEGER => "Message" Number),
     field!("protocolOp" OPERATIONS),
     optional!("controls" implicit!(0 Inside::Each(&field!("control" sequence![
-            field!("controlType" OCTET_STRING),
-            optional!("criticality" BOOLEAN),
-            optional!("controlValue" OCTET_STRING),
+            field!("controlType" OCTET_STRING => "Control" Text heads),
+            optional!("criticality" BOOLEAN => "Critical" Boolean),
+            optional!("controlValue" OCTET_STRING => "Value" Octets),
         ])))),
-]);
+] => "LDAP message" Title);
 
 fn ldap_message() -> &'static Component {
     &LDAP_MESSAGE_TYPE

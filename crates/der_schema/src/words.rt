@@ -49,6 +49,12 @@ pub enum Notation {
     Joined,
     /// The time of a GeneralizedTime, or its text in quotes if it is none.
     GeneralizedTime,
+    /// `true` or `false`.
+    Boolean,
+    /// A text in quotes if the octets are UTF-8 without control characters, else hexadecimal digits.
+    TextOrHex,
+    /// A search filter of LDAP, as RFC 4515 writes it.
+    Filter,
 }
 
 /// The name of a number.
@@ -58,25 +64,28 @@ pub struct NumberName {
     pub name: &'static str,
 }
 
-/// The words of a component: its label, what is in front of the value, its notation.
+/// The words of a component: its label, what is in front of the value, its notation, whether it heads what follows.
 #[macro_export]
 macro_rules! words {
     ($label:literal $notation:ident) => {
-        $crate::worded!($label "" $crate::words::Notation::$notation)
+        $crate::worded!($label "" false $crate::words::Notation::$notation)
+    };
+    ($label:literal $notation:ident heads) => {
+        $crate::worded!($label "" true $crate::words::Notation::$notation)
     };
     ($label:literal $notation:ident ($names:expr)) => {
-        $crate::worded!($label "" $crate::words::Notation::$notation($names))
+        $crate::worded!($label "" false $crate::words::Notation::$notation($names))
     };
     ($label:literal $kind:literal $notation:ident) => {
-        $crate::worded!($label $kind $crate::words::Notation::$notation)
+        $crate::worded!($label $kind false $crate::words::Notation::$notation)
     };
 }
 
-/// Words with this label, with this in front of the value, in this notation.
+/// Words with this label, with this in front of the value, heading what follows or not, in this notation.
 #[macro_export]
 macro_rules! worded {
-    ($label:literal $kind:literal $notation:expr) => {
-        $crate::words::Words { label: $label, kind: $kind, notation: $notation, heads: false }
+    ($label:literal $kind:literal $heads:literal $notation:expr) => {
+        $crate::words::Words { label: $label, kind: $kind, notation: $notation, heads: $heads }
     };
 }
 

@@ -8,14 +8,13 @@ use Rattle.der_cursor.specs.Formats.{Format, Only, Required}
 use Rattle.der_known.specs.declared.known.KnownTypes.{KnownTypes}
 use Rattle.x509.specs.Formats.{Format as KeyFormat, spells}
 use Rattle.messages.specs.Kerberos.Requests.{AsReq, RequestValue}
-use Rattle.messages.specs.Ldap.Messages.{Message as LdapMessage, message_of as ldap_of}
+use Rattle.messages.specs.Ldap.Messages.{Message as LdapMessage, MessageValue as LdapValue}
 use Rattle.message_text.specs.declared.algorithm.EncryptedKeyText.{EncryptedKeyText}
 use Rattle.message_text.specs.declared.curve_key.EcKeyText.{EcKeyText}
 use Rattle.message_text.specs.declared.private_key.PrivateKeyText.{PrivateKeyText}
 use Rattle.message_text.specs.declared.public_key.PublicKeyText.{PublicKeyText}
 use Rattle.message_text.specs.Algorithms.{IsEncrypted, encrypted_text}
 use Rattle.message_text.specs.CurveKeys.{IsCurveKey as IsCurveFields, ec_key_text}
-use Rattle.message_text.specs.Ldap.{ldap_text}
 use Rattle.message_text.specs.PrivateKeys.{IsPrivateKey as IsKeyShown, private_key_text}
 use Rattle.message_text.specs.PublicKeys.{IsPublicKey as IsPublicShown, public_key_text}
 use Rattle.message_text.specs.RsaKeys.{rsa_key_text}
@@ -73,8 +72,8 @@ IsKerberos types = ShowsByType (λ i. (x : RequestValue) × Is Der AsReq i x) ty
 abbrev pub IsSnmp : KnownTypes → List ℕ → Option (List ℕ) → Type 0
 IsSnmp types = ShowsByType (λ i. (m : SnmpValue) × Is Ber SnmpMessage i m) types (codes "Message")
 
-abbrev pub IsLdap : List ℕ → Option (List ℕ) → Type 0
-IsLdap = Shows (Is Ber LdapMessage) ldap_of (λ m text. text ≡ ldap_text m)
+abbrev pub IsLdap : KnownTypes → List ℕ → Option (List ℕ) → Type 0
+IsLdap types = ShowsByType (λ i. (m : LdapValue) × Is Ber LdapMessage i m) types (codes "LDAPMessage")
 
 infixr 20 ◌⊳◌
 -- the text of the first, or of the second if the first has none
@@ -84,7 +83,7 @@ abbrev pub ◌⊳◌ : (List ℕ → Option (List ℕ) → Type 0) → (List ℕ
 
 -- the summary of the first of these formats that the octets have, from each format on
 abbrev pub FromSnmp : KnownTypes → List ℕ → Option (List ℕ) → Type 0
-FromSnmp types = IsSnmp types ⊳ IsLdap
+FromSnmp types = IsSnmp types ⊳ IsLdap types
 
 abbrev pub FromKerberos : KnownTypes → List ℕ → Option (List ℕ) → Type 0
 FromKerberos types = IsKerberos types ⊳ FromSnmp types

@@ -85,7 +85,7 @@ fn from_snmp(alloc: Global, octets: &[u8], types: &KnownTypes) -> Found
     ensures { IfOk result (λ found. FromSnmp types.now octets.now (text_in found)) }
 {
     match snmp_text(alloc, octets, types) {
-        Ok(None) => ldap_text(alloc, octets),
+        Ok(None) => ldap_text(alloc, octets, types),
         found => found,
     }
 }

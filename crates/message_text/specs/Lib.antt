@@ -1,8 +1,5 @@
 pub mod Algorithms
 pub mod CurveKeys
-pub mod Ldap
-pub mod LdapFilters
-pub mod LdapResults
 pub mod PrivateKeys
 pub mod PublicKeys
 pub mod RsaKeys

@@ -1,11 +1,9 @@
 -- Texts of identifiers and fields.
-use Rattle.std.specs.Prelude.{◌≡◌, ℕ, false, IfSome, Option, Some, None, List, ◌++◌, codes, decimal}
-use Rattle.std.specs.Borrow.{Bor}
-use Rattle.std.specs.List.{flat_map}
+use Rattle.std.specs.Prelude.{◌≡◌, ℕ, false, IfSome, Option, Some, None, List, ◌++◌, codes}
 use Rattle.std.specs.Option.{option_copied}
 use Rattle.der_print.specs.Values.{IsNameOf, identifier_text}
 use Rattle.message_text.specs.declared.identifier.NamedIdentifier.{NamedIdentifier}
-use Rattle.type_words.specs.Texts.{name_text, text_of}
+use Rattle.type_words.specs.Texts.{text_of}
 
 -- a name, if there is one, and the arcs of its identifier
 abbrev pub text_with_name : Option (List ℕ) → List ℕ → List ℕ
@@ -24,11 +22,3 @@ pub record IsNamed (w : List ℕ) (x : NamedIdentifier) : Type 0 where
 -- the line of a field that is a text, after its label
 abbrev pub field_text : List ℕ → List ℕ → List ℕ
 field_text label w = codes "  " ++ label ++ codes ": " ++ text_of w ++ codes "\n"
-
--- a line for each text, with the same label
-abbrev pub fields_text : List ℕ → List (Bor (List ℕ)) → List ℕ
-fields_text label texts = flat_map (λ t. field_text label t.now) texts
-
--- the line of a number after its label, with its name if it has one
-abbrev pub number_text : List ℕ → ℕ → Option (List ℕ) → List ℕ
-number_text label n name = codes "  " ++ label ++ codes ": " ++ decimal n ++ name_text name ++ codes "\n"

@@ -1,17 +1,11 @@
-//! Summaries of keys and of LDAP messages: a line `Label: value` for each field, indented by two
-//! columns for each structure around it. Secret numbers of private keys are never written.
+//! Summaries of keys: a line `Label: value` for each field, indented by two columns for each structure around it. Secret
+//! numbers of private keys are never written.
 #![tactic(auto)]
 
 mod algorithm;
 mod curve_key;
 mod field;
 mod identifier;
-mod ldap_control;
-mod ldap_entry;
-mod ldap_filter;
-mod ldap_message;
-mod ldap_result;
-mod ldap_search;
 mod private_key;
 mod public_key;
 mod rsa;
@@ -19,7 +13,6 @@ mod rsa;
 pub use algorithm::{AlgorithmText, EncryptedKeyText, ParametersText};
 pub use curve_key::EcKeyText;
 pub use identifier::NamedIdentifier;
-pub use ldap_message::LdapText;
 pub use private_key::PrivateKeyText;
 pub use public_key::PublicKeyText;
 pub use rsa::RsaKeyText;

@@ -10,6 +10,6 @@ mod text;
 pub mod writer;
 
 pub use filter::{Connective, FilterPart, Piece, Place, Relation};
-pub use filters::DEEPEST_FILTER;
+pub use filters::{DEEPEST_FILTER, read_search_filter};
 pub use message::{Attribute, Change, Content, Control, Message, Operation, Search};
 pub use reader::read_message;

@@ -1,4 +1,6 @@
 pub mod CountLaws
+pub mod FilterLaws
+pub mod FilterTexts
 pub mod HiddenLaws
 pub mod ItemLaws
 pub mod LineLaws

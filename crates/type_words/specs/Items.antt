@@ -1,6 +1,6 @@
 -- What octets of a type are in words: an item for each element that has a line, by the words of the type.
 use Rattle.std.specs.Prelude.{ℕ, ◌+◌, ◌-◌, ◌^◌, min, not, ◌&&◌, Bool, true, false, if◌then◌else◌}
-use Rattle.std.specs.Prelude.{Option, Some, None, List, [], ◌∷◌, ◌++◌, take, slice_get}
+use Rattle.std.specs.Prelude.{Option, Some, None, List, [], ◌∷◌, ◌++◌, drop, take, slice_get}
 use Rattle.std.specs.Option.{option_to_list}
 use Rattle.der_base.specs.TreeEquality.{same_class}
 use Rattle.der_base.specs.declared.header.Class.TheVariants.{Universal}
@@ -10,6 +10,7 @@ use Rattle.der_schema.specs.declared.schema.Secrecy.{Secrecy}
 use Rattle.der_schema.specs.declared.schema.Secrecy.TheVariants.{Public, Secret, SecretUnread}
 use Rattle.der_schema.specs.declared.words.Notation.{Notation}
 use Rattle.der_schema.specs.declared.words.Notation.TheVariants.{Silent, Skipped, Title, Count, Word, Label as ForNext}
+use Rattle.der_schema.specs.declared.words.Notation.TheVariants.{Filter}
 use Rattle.der_schema.specs.declared.words.Words.{Words}
 use Rattle.der_schema.specs.Encodings.{octets_at, seen_in}
 use Rattle.der_schema.specs.Meaning.{Label, Root, State}
@@ -23,7 +24,7 @@ pub record Said : Type 0 where
   pub label : List ℕ
   -- what is in front of the value
   pub kind : List ℕ
-  -- how the content octets are read
+  -- how the octets are read
   pub notation : Notation
   pub octets : List ℕ
 
@@ -80,11 +81,23 @@ abbrev pub kind_of : Option Words → List ℕ
 kind_of None = []
 kind_of (Some w) = w.kind.now
 
+-- the line of an element heads what follows it
+abbrev pub heads : Option Words → Bool
+heads None = false
+heads (Some w) = w.heads
+
 -- an element that has a name, with its own words and those handed to it
 abbrev pub here : Place → Label → Place
 here p l = let q = worded p l.words in record q { notation = notation_of l.secrecy q.notation }
 
 -- Inside an element, and after it.
+
+-- a line has this notation
+abbrev pub has_line : Notation → Bool
+has_line Silent = false
+has_line Skipped = false
+has_line ForNext = false
+has_line n = true
 
 -- the notation reads the content octets
 abbrev pub is_of_content : Notation → Bool
@@ -94,6 +107,7 @@ is_of_content Title = false
 is_of_content Count = false
 is_of_content (Word w) = false
 is_of_content ForNext = false
+is_of_content Filter = false
 is_of_content n = true
 
 -- an explicit tag (8.14), or what a constructed type is under an implicit one
@@ -102,7 +116,7 @@ is_explicit v = v.constructed && not (same_class Universal v.class)
 
 -- an element that is an explicit tag or not leaves its notation to the element inside
 abbrev pub is_handed_in : Notation → Bool → Bool
-is_handed_in n explicit = explicit && is_of_content n
+is_handed_in n explicit = is_of_content n && explicit
 
 -- without a label, this deep
 abbrev pub plain_place : ℕ → Place
@@ -124,33 +138,42 @@ abbrev pub next_label : Notation → List ℕ → List ℕ → List ℕ
 next_label ForNext w label = identifier_text false w
 next_label n w label = label
 
--- how the elements after one are shown that is shown in the notation
-abbrev pub after : Place → Notation → List ℕ → Place
-after p n w = record { indent = p.indent; label = next_label n w p.label; notation = p.notation }
+-- what follows is one level deeper if a line heads it
+abbrev pub next_indent : ℕ → Bool → ℕ
+next_indent n headed = if headed then deeper n else n
+
+-- how the elements after one are shown that is shown in the notation, and heads them or not
+abbrev pub after : Place → Notation → Bool → List ℕ → Place
+after p n heads w = record {
+  indent = next_indent p.indent (has_line n && heads);
+  label = next_label n w p.label;
+  notation = p.notation;
+}
 
 -- Items.
 
--- a line has this notation
-abbrev pub has_line : Notation → Bool
-has_line Silent = false
-has_line Skipped = false
-has_line ForNext = false
-has_line n = true
+abbrev pub content_in : List ℕ → Visited → List ℕ
+content_in i v = octets_at i (v.offset + v.header) v.length
 
-abbrev pub said_at : Place → List ℕ → ℕ → List ℕ → Said
-said_at p kind offset w = record {
+-- the octets that the notation reads: the content octets, or all from the header on
+abbrev pub read_by : Notation → List ℕ → Visited → List ℕ
+read_by Filter i v = drop v.offset i
+read_by n i v = content_in i v
+
+abbrev pub said_at : Place → List ℕ → List ℕ → Visited → Said
+said_at p kind i v = record {
   indent = p.indent;
-  offset = offset;
+  offset = v.offset;
   label = p.label;
   kind = kind;
   notation = p.notation;
-  octets = w;
+  octets = read_by p.notation i v;
 }
 
--- the item of an element at an offset that is shown so
-abbrev pub item_of : Place → List ℕ → ℕ → Bool → List ℕ → Option Said
-item_of p kind offset explicit w =
-    if has_line p.notation && not (is_handed_in p.notation explicit) then Some (said_at p kind offset w) else None
+-- the item of an element of i that is shown so
+abbrev pub item_of : Place → List ℕ → List ℕ → Visited → Option Said
+item_of p kind i v = if has_line p.notation && not (is_handed_in p.notation (is_explicit v)) then
+    Some (said_at p kind i v) else None
 
 -- An element with its name. None if it isn't in the type.
 pub record Named : Type 0 where
@@ -167,12 +190,12 @@ pub record Step : Type 0 where
   pub inside : Place
 
 -- an element that isn't in the type isn't shown, nor is what is inside
-abbrev pub step_by : Option Label → Place → ℕ → Bool → List ℕ → Step
-step_by None p offset explicit w = record { item = None; after = p; inside = hidden }
-step_by (Some l) p offset explicit w = let q = here p l in record {
-  item = item_of q (kind_of l.words) offset explicit w;
-  after = after p q.notation w;
-  inside = inside q explicit;
+abbrev pub step_by : Option Label → Place → List ℕ → Visited → Step
+step_by None p i v = record { item = None; after = p; inside = hidden }
+step_by (Some l) p i v = let q = here p l in record {
+  item = item_of q (kind_of l.words) i v;
+  after = after p q.notation (heads l.words) (content_in i v);
+  inside = inside q (is_explicit v);
 }
 
 -- what is open at a depth
@@ -181,9 +204,7 @@ place_or None = hidden
 place_or (Some p) = p
 
 abbrev pub step : List Place → List ℕ → Named → Step
-step ps i n = let v = n.visited in
-    step_by n.label (place_or (slice_get ps v.depth)) v.offset (is_explicit v)
-    (octets_at i (v.offset + v.header) v.length)
+step ps i n = step_by n.label (place_or (slice_get ps n.visited.depth)) i n.visited
 
 -- how the elements of the open contents are shown after an element, the outermost content first
 abbrev pub places_past : List Place → List ℕ → Named → List Place

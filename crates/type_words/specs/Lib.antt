@@ -1,4 +1,5 @@
 pub mod Counts
+pub mod Filters
 pub mod Items
 pub mod Joined
 pub mod Laws

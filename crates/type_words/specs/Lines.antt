@@ -4,8 +4,9 @@ use Rattle.der_base.specs.declared.time.ASN1DateTime.{ASN1DateTime}
 use Rattle.der_base.specs.Time.{IsTimeText}
 use Rattle.der_print.specs.Values.{moment_text}
 use Rattle.der_schema.specs.declared.words.Notation.{Notation}
-use Rattle.der_schema.specs.declared.words.Notation.TheVariants.{Title, Count, Joined, GeneralizedTime}
+use Rattle.der_schema.specs.declared.words.Notation.TheVariants.{Title, Count, Filter, Joined, GeneralizedTime}
 use Rattle.type_words.specs.Counts.{IsCount}
+use Rattle.type_words.specs.Filters.{IsFilterText}
 use Rattle.type_words.specs.Items.{Said}
 use Rattle.type_words.specs.Joined.{AreJoined}
 use Rattle.type_words.specs.Texts.{text_of, value_text}
@@ -23,6 +24,7 @@ pub data IsTime (w : List ℕ) : List ℕ → Type 0 where
 -- a value in a notation
 abbrev pub IsValue : Notation → List ℕ → List ℕ → Type 0
 IsValue Count w text = (n : ℕ) × IsCount w n × (text ≡ decimal n)
+IsValue Filter w text = IsFilterText w text
 IsValue Joined w text = AreJoined w text
 IsValue GeneralizedTime w text = IsTime w text
 IsValue n w text = text ≡ value_text n w

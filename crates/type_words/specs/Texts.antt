@@ -10,7 +10,7 @@ use Rattle.der_print.specs.Quotes.{quoted_text}
 use Rattle.der_print.specs.Values.{hex_text, identifier_text, is_ascii_text, number_text}
 use Rattle.der_schema.specs.declared.words.Notation.{Notation}
 use Rattle.der_schema.specs.declared.words.Notation.TheVariants.{Word, Number, NumberOf, NameOf, Arcs, Octets, Hex}
-use Rattle.der_schema.specs.declared.words.Notation.TheVariants.{Length, Address, Text}
+use Rattle.der_schema.specs.declared.words.Notation.TheVariants.{Length, Address, Boolean, Text, TextOrHex}
 use Rattle.der_schema.specs.declared.words.NumberName.{NumberName}
 
 -- a space and a name, if there is one
@@ -73,6 +73,11 @@ named_text names w = name_or (name_among names w) w
 abbrev pub address_text : List ℕ → List ℕ
 address_text w = if length w == 4 then ipv4_text w else hex_text Whole w
 
+-- the value of a BOOLEAN (8.2.2), or the octets
+abbrev pub flag_text : List ℕ → List ℕ
+flag_text (b ∷ []) = if b == 0 then codes "false" else codes "true"
+flag_text w = hex_text Whole w
+
 -- what is read of content octets in a notation
 abbrev pub value_text : Notation → List ℕ → List ℕ
 value_text (Word word) w = word.now
@@ -84,5 +89,7 @@ value_text Octets w = octets_text w
 value_text Hex w = hex_text Whole w
 value_text Length w = count_text (length w)
 value_text Address w = address_text w
+value_text Boolean w = flag_text w
 value_text Text w = text_of w
+value_text TextOrHex w = shown_text w
 value_text n w = []

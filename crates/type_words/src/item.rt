@@ -16,9 +16,10 @@ pub struct Item<'a> {
     pub label: Label<'a>,
     /// What is in front of the value, such as the name of its type, or empty.
     pub kind: &'static str,
-    /// How the content octets are read.
+    /// How the octets are read.
     pub notation: Notation,
-    /// The content octets. With an indefinite length, all octets after the header.
+    /// The content octets. With an indefinite length, all octets after the header. For a `Filter`, all octets from the
+    /// header on.
     pub octets: &'a [u8],
 }
 

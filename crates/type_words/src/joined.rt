@@ -29,11 +29,7 @@ pub(crate) fn write_joined<W: fmt::Write>(f: &mut fmt::Formatter<W>, octets: &[u
 }
 
 /// Writes a text in quotes, after a slash if it isn't the first.
-fn write_part<W: fmt::Write>(
-    f: &mut fmt::Formatter<W>,
-    index: usize,
-    octets: &[u8],
-) -> fmt::Result
+fn write_part<W: fmt::Write>(f: &mut fmt::Formatter<W>, index: usize, octets: &[u8]) -> fmt::Result
     ensures { DisplaysOnOk W.Write.write_str_gives f.old result (Some (part_text index octets.now)) f.new }
 {
     let text = quoted(octets);

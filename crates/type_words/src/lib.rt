@@ -1,6 +1,7 @@
 //! What octets of a type of ASN.1 are in words: a line `Label: value` for each element that the type has words for.
 #![tactic(auto)]
 
+mod filter;
 mod item;
 mod joined;
 pub mod laws;

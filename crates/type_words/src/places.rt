@@ -3,9 +3,9 @@ ghost use Rattle.std.specs.Prelude.{◌≡◌, ◌≤◌, ◌∷◌, [], slice_g
 ghost use Rattle.der_elements.specs.Walked.{visited_of};
 ghost use Rattle.der_schema.specs.Meaning.{words_in};
 ghost use Rattle.der_schema.specs.Steps.{label_in, label_of};
-ghost use Rattle.type_words.specs.Items.{after, first_place, has_line, here, inside, is_explicit, is_handed_in};
-ghost use Rattle.type_words.specs.Items.{is_of_content, item_of, kind_of, named, notation_by, place_or, plain_place};
-ghost use Rattle.type_words.specs.Items.{places_past, step, step_by, worded};
+ghost use Rattle.type_words.specs.Items.{after, first_place, has_line, heads, here, inside, is_explicit};
+ghost use Rattle.type_words.specs.Items.{is_handed_in, is_of_content, item_of, kind_of, named, next_indent, notation_by};
+ghost use Rattle.type_words.specs.Items.{place_or, places_past, plain_place, read_by, step, step_by, worded};
 ghost use Rattle.type_words.specs.Places.{place_of, places_in, said_of, step_of};
 
 use crate::item::{Item, Label};
@@ -77,9 +77,7 @@ impl<'a> Places<'a> {
         ensures places { places_in self.new
             ≡ places_past (places_in self.old) input.now (named (visited_of element.now) (label_of name)) }
     {
-        let around = self.place_at(element.depth);
-        let octets = content_of(input, element);
-        let passing = around.pass(element.offset, is_explicit(element), name, octets);
+        let passing = self.place_at(element.depth).pass(element, name, input);
         self.places.truncate(element.depth);
         self.places.push(passing.after);
         self.places.push(passing.inside);
@@ -106,15 +104,9 @@ struct Passing<'a> {
 }
 
 impl<'a> Place<'a> {
-    /// Passes the element at this offset, which is an explicit tag or not, with its name and its content octets.
-    fn pass(
-        self,
-        offset: usize,
-        explicit: bool,
-        name: Option<Name>,
-        octets: &'a [u8],
-    ) -> Passing<'a>
-        ensures { step_of result ≡ step_by (label_of name) (place_of self.entry) offset explicit octets.now }
+    /// Passes an element of an input, with its name.
+    fn pass(self, element: &Element<'_>, name: Option<Name>, input: &'a [u8]) -> Passing<'a>
+        ensures { step_of result ≡ step_by (label_of name) (place_of self.entry) input.now (visited_of element.now) }
     {
         let Some(name) = name else {
             return Passing {
@@ -125,9 +117,9 @@ impl<'a> Place<'a> {
         };
         let here = self.with(&name);
         Passing {
-            item: here.item(kind_of(name.words), offset, explicit, octets),
-            after: self.after(here.notation, octets),
-            inside: here.inside(explicit),
+            item: here.item(kind_of(name.words), element, input),
+            after: self.after(here.notation, heads(name.words), content_of(input, element)),
+            inside: here.inside(is_explicit(element)),
         }
     }
 
@@ -165,23 +157,17 @@ impl<'a> Place<'a> {
     }
 
     /// The item of an element that is shown so. None if it has no line.
-    fn item(
-        self,
-        kind: &'static str,
-        offset: usize,
-        explicit: bool,
-        octets: &'a [u8],
-    ) -> Option<Item<'a>>
-        ensures { said_of result ≡ item_of (place_of self.entry) kind.now offset explicit octets.now }
+    fn item(self, kind: &'static str, element: &Element<'_>, input: &'a [u8]) -> Option<Item<'a>>
+        ensures { said_of result ≡ item_of (place_of self.entry) kind.now input.now (visited_of element.now) }
     {
-        if has_line(self.notation) && !is_handed_in(self.notation, explicit) {
+        if has_line(self.notation) && !is_handed_in(self.notation, is_explicit(element)) {
             Some(Item {
                 indent: self.indent,
-                offset,
+                offset: element.offset,
                 label: self.label,
                 kind,
                 notation: self.notation,
-                octets,
+                octets: read_by(self.notation, element, input),
             })
         } else {
             None
@@ -201,16 +187,18 @@ impl<'a> Place<'a> {
         }
     }
 
-    /// How the elements after one in this notation are shown.
-    fn after(self, notation: Notation, octets: &'a [u8]) -> Place<'a>
-        ensures { place_of result ≡ after (place_of self.entry) notation octets.now }
+    /// How the elements after one in this notation are shown, which heads them or not.
+    fn after(self, notation: Notation, heads: bool, octets: &'a [u8]) -> Place<'a>
+        ensures { place_of result ≡ after (place_of self.entry) notation heads octets.now }
     {
-        match notation {
-            Notation::Label => Place {
-                label: Label::Identifier(octets),
-                ..self
-            },
-            _ => self,
+        let label = match notation {
+            Notation::Label => Label::Identifier(octets),
+            _ => self.label,
+        };
+        Place {
+            indent: next_indent(self.indent, has_line(notation) && heads),
+            label,
+            notation: self.notation,
         }
     }
 }
@@ -220,6 +208,27 @@ fn plain_place(indent: usize) -> Place<'static>
     ensures { place_of result ≡ plain_place indent }
 {
     Place { indent, ..FIRST }
+}
+
+/// How deep what follows is: one level deeper if a line heads it.
+fn next_indent(indent: usize, headed: bool) -> usize
+    ensures { result ≡ next_indent indent headed }
+{
+    if headed {
+        indent.saturating_add(1)
+    } else {
+        indent
+    }
+}
+
+/// The octets that a notation reads: the content octets, or all from the header on.
+fn read_by<'a>(notation: Notation, element: &Element<'_>, input: &'a [u8]) -> &'a [u8]
+    ensures { result.now ≡ read_by notation input.now (visited_of element.now) }
+{
+    match notation {
+        Notation::Filter => &input[element.offset.min(input.len())..],
+        _ => content_of(input, element),
+    }
 }
 
 /// How an element is read: as it says, or as what is around it.
@@ -243,6 +252,16 @@ fn kind_of(words: Option<&'static Words>) -> &'static str
     }
 }
 
+/// Whether the line of an element heads what follows it.
+fn heads(words: Option<&'static Words>) -> bool
+    ensures { result ≡ heads (words_in words.entry) }
+{
+    match words {
+        Some(words) => words.heads,
+        None => false,
+    }
+}
+
 /// Whether a line has this notation.
 fn has_line(notation: Notation) -> bool
     ensures { result ≡ has_line notation }
@@ -259,7 +278,7 @@ fn is_of_content(notation: Notation) -> bool
 {
     match notation {
         Notation::Silent | Notation::Skipped | Notation::Title | Notation::Count => false,
-        Notation::Word(_) | Notation::Label => false,
+        Notation::Word(_) | Notation::Label | Notation::Filter => false,
         _ => true,
     }
 }
@@ -268,7 +287,7 @@ fn is_of_content(notation: Notation) -> bool
 fn is_handed_in(notation: Notation, explicit: bool) -> bool
     ensures { result ≡ is_handed_in notation explicit }
 {
-    explicit && is_of_content(notation)
+    is_of_content(notation) && explicit
 }
 
 /// Whether an element is an explicit tag (X.690 8.14), or a constructed type under an implicit one.

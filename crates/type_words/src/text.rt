@@ -7,6 +7,7 @@ ghost use Rattle.type_words.specs.Lines.{IsBehind, IsEnding, IsLine, IsTime, IsV
 ghost use Rattle.type_words.specs.Places.{said};
 ghost use Rattle.type_words.specs.TextLines.{text_in};
 
+use crate::filter::write_filter;
 use crate::item::{Item, Label, Sink};
 use crate::joined::write_joined;
 use crate::value::Value;
@@ -42,6 +43,7 @@ impl fmt::Write for Text {
 #[derive(Drop)]
 pub struct TextLines {
     f: fmt::Formatter<Text>,
+    alloc: Global,
 }
 
 impl TextLines {
@@ -53,6 +55,7 @@ impl TextLines {
         let octets = Vec::new(alloc);
         TextLines {
             f: fmt::Formatter::new(Text { octets }),
+            alloc,
         }
     }
 
@@ -70,7 +73,7 @@ impl Sink for TextLines {
     ghost put_gives = { AddsLine };
 
     fn put(&mut self, item: &Item<'_>) -> Result<(), AllocError> {
-        match write_line(&mut self.f, item) {
+        match write_line(&mut self.f, self.alloc, item) {
             Ok(()) => Ok(()),
             Err(_) => Err(AllocError),
         }
@@ -78,13 +81,17 @@ impl Sink for TextLines {
 }
 
 /// Writes the line of an item.
-fn write_line<W: fmt::Write>(f: &mut fmt::Formatter<W>, item: &Item<'_>) -> fmt::Result
+fn write_line<W: fmt::Write>(
+    f: &mut fmt::Formatter<W>,
+    alloc: Global,
+    item: &Item<'_>,
+) -> fmt::Result
     ensures { WritesOne W.Write.write_str_gives f.old result (IsLine (said item.now)) f.new }
 {
     write_columns(f, item.indent)?;
     let label = LabelText(item.label);
     write!(f, "{label}:")?;
-    write_ending(f, item)?;
+    write_ending(f, alloc, item)?;
     f.write_str("\n")
 }
 
@@ -122,18 +129,23 @@ impl fmt::Display for LabelText<'_> {
 }
 
 /// Writes what is behind the colon of a line: nothing after a title, or else the value after a space.
-fn write_ending<W: fmt::Write>(f: &mut fmt::Formatter<W>, item: &Item<'_>) -> fmt::Result
+fn write_ending<W: fmt::Write>(
+    f: &mut fmt::Formatter<W>,
+    alloc: Global,
+    item: &Item<'_>,
+) -> fmt::Result
     ensures { WritesOne W.Write.write_str_gives f.old result (IsEnding (said item.now)) f.new }
 {
     match item.notation {
         Notation::Title => Ok(()),
-        notation => write_behind(f, item.kind, notation, item.octets),
+        notation => write_behind(f, alloc, item.kind, notation, item.octets),
     }
 }
 
 /// Writes a value behind a space and what is in front of it.
 fn write_behind<W: fmt::Write>(
     f: &mut fmt::Formatter<W>,
+    alloc: Global,
     kind: &str,
     notation: Notation,
     octets: &[u8],
@@ -141,7 +153,7 @@ fn write_behind<W: fmt::Write>(
     ensures { WritesOne W.Write.write_str_gives f.old result (IsBehind kind.now notation octets.now) f.new }
 {
     write_front(f, kind)?;
-    write_value(f, notation, octets)
+    write_value(f, alloc, notation, octets)
 }
 
 /// Writes a space, and what is in front of a value, if there is something, with a space after it.
@@ -158,6 +170,7 @@ fn write_front<W: fmt::Write>(f: &mut fmt::Formatter<W>, kind: &str) -> fmt::Res
 /// Writes a value.
 fn write_value<W: fmt::Write>(
     f: &mut fmt::Formatter<W>,
+    alloc: Global,
     notation: Notation,
     octets: &[u8],
 ) -> fmt::Result
@@ -168,6 +181,7 @@ fn write_value<W: fmt::Write>(
             let count = count_in(octets);
             write!(f, "{count}")
         }
+        Notation::Filter => write_filter(f, alloc, octets),
         Notation::Joined => write_joined(f, octets),
         Notation::GeneralizedTime => write_time(f, octets),
         notation => {

@@ -2,9 +2,9 @@
 ghost use Rattle.std.specs.Prelude.{◌≡◌, Some, false};
 ghost use Rattle.std.specs.Fmt.{DisplaysOnOk};
 ghost use Rattle.std.specs.Option.{option_copied};
-ghost use Rattle.type_words.specs.Texts.{name_among, name_of, named_text, number_named};
+ghost use Rattle.type_words.specs.Texts.{flag_text, name_among, name_of, named_text, number_named};
 
-use crate::octets::{Count, Octets, digits, quoted};
+use crate::octets::{Count, Octets, Shown, digits, quoted};
 use der_base::integer::read_u64;
 use der_print::{Arcs, Limit, Number};
 use der_schema::words::{Notation, NumberName};
@@ -54,11 +54,30 @@ impl fmt::Display for Value<'_> {
                 let address = Address(octets);
                 write!(f, "{address}")
             }
+            Notation::Boolean => write_flag(f, octets),
             Notation::Text => {
                 let text = quoted(octets);
                 write!(f, "{text}")
             }
+            Notation::TextOrHex => {
+                let text = Shown(octets);
+                write!(f, "{text}")
+            }
             _ => Ok(()),
+        }
+    }
+}
+
+/// Writes the value of a BOOLEAN (X.690 8.2.2), or the octets if they aren't one.
+fn write_flag<W: fmt::Write>(f: &mut fmt::Formatter<W>, octets: &[u8]) -> fmt::Result
+    ensures { DisplaysOnOk W.Write.write_str_gives f.old result (Some (flag_text octets.now)) f.new }
+{
+    match octets {
+        [0] => f.write_str("false"),
+        [_] => f.write_str("true"),
+        _ => {
+            let hex = digits(octets);
+            write!(f, "{hex}")
         }
     }
 }

@@ -21,7 +21,7 @@ type Read<T> = Result<T, Refusal<BerError>>;
 pub const DEEPEST_FILTER: usize = 32;
 
 /// Reads the filter of a search.
-pub(crate) fn read_search_filter<'a>(
+pub fn read_search_filter<'a>(
     alloc: Global,
     list: &mut Cursor<'a>,
 ) -> Read<Vec<FilterPart<'a>>>

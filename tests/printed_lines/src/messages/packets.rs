@@ -5,7 +5,6 @@ use anyhow::{Context, Result, anyhow};
 use der_base::rules::Rules;
 use der_known::KnownTypes;
 use extension_text::names::NameText;
-use message_text::LdapText;
 use messages::kerberos::read_request;
 use std::io::Write;
 use std::str;
@@ -88,8 +87,8 @@ pub fn print_ldap(rt: &HostRuntime, input: &[u8], printed: Printed) -> Result<()
         }
         let offset = input.len().saturating_sub(rest.len());
         let read = messages::ldap::read_message(rt.alloc(), rest);
-        let (after, message) = read.map_err(|e| anyhow!("message at {offset}: {e}"))?;
-        print!(rt; "{}", LdapText { message: &message })?;
+        let (after, _) = read.map_err(|e| anyhow!("message at {offset}: {e}"))?;
+        print_words(rt, &rest[..rest.len() - after.len()], "LDAPMessage")?;
         rest = after;
     }
     Ok(())

@@ -30,7 +30,7 @@ elements-preserved-then-element-eq0 g c =
             let part = c.in_ok-write_part-in-Ok-Some.ensures done.2.plain refl in (
               done.0 ++ _,
               outermost p.0 v done.0 refl done.1 c.if-element-eq0.true
-              (ap (λ z. done.0 ++ z) (ap (λ n. part_text n c.content_of-text.result.now) first ∙ ap (part_text (index_in 0 p.0)) c.content_of-text.ensures)),
+                  (ap (λ z. done.0 ++ z) (ap (λ n. part_text n c.content_of-text.result.now) first ∙ ap (part_text (index_in 0 p.0)) c.content_of-text.ensures)),
               has_written_append _ _ _ _ _ _ done.2 part,
             ),
       );

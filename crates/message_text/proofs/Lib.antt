@@ -1,2 +1,0 @@
-pub mod FilterTexts
-pub mod Texts

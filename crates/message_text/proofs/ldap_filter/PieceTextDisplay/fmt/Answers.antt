@@ -1,8 +1,0 @@
-use Rattle.std.proofs.Common.{◌++◌, ap}
-use Rattle.std.proofs.Output.{has_written_of_eq}
-use Rattle.message_text.specs.LdapFilters.{assertion_text}
-use Rattle.message_text.proofs.ldap_filter.PieceTextDisplay.fmt.Goals as goal
-
-pub returns-clause-writes : goal.returns-clause-writes
-returns-clause-writes g c = λ plain ok.
-    has_written_of_eq _ _ _ _ _ (ap (λ s. assertion_text c.args.self.now.0.value.now ++ s) c.star_unless_final-star.ensures) (c.write.ensures.writes plain ok)
