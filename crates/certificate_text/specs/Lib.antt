@@ -1,7 +1,13 @@
+pub mod Algorithms
 pub mod Certificates
+pub mod CurveKeys
 pub mod Expiry
 pub mod Keys
 pub mod Lists
 pub mod Partials
+pub mod PrivateKeys
+pub mod PublicKeys
 pub mod Requests
+pub mod RsaKeys
 pub mod Values
+pub mod Words

@@ -9,15 +9,15 @@ use Rattle.der_known.specs.declared.known.KnownTypes.{KnownTypes}
 use Rattle.x509.specs.Formats.{Format as KeyFormat, spells}
 use Rattle.messages.specs.Kerberos.Requests.{AsReq, RequestValue}
 use Rattle.messages.specs.Ldap.Messages.{Message as LdapMessage, MessageValue as LdapValue}
-use Rattle.message_text.specs.declared.algorithm.EncryptedKeyText.{EncryptedKeyText}
-use Rattle.message_text.specs.declared.curve_key.EcKeyText.{EcKeyText}
-use Rattle.message_text.specs.declared.private_key.PrivateKeyText.{PrivateKeyText}
-use Rattle.message_text.specs.declared.public_key.PublicKeyText.{PublicKeyText}
-use Rattle.message_text.specs.Algorithms.{IsEncrypted, encrypted_text}
-use Rattle.message_text.specs.CurveKeys.{IsCurveKey as IsCurveFields, ec_key_text}
-use Rattle.message_text.specs.PrivateKeys.{IsPrivateKey as IsKeyShown, private_key_text}
-use Rattle.message_text.specs.PublicKeys.{IsPublicKey as IsPublicShown, public_key_text}
-use Rattle.message_text.specs.RsaKeys.{rsa_key_text}
+use Rattle.certificate_text.specs.declared.algorithm.EncryptedKeyText.{EncryptedKeyText}
+use Rattle.certificate_text.specs.declared.curve_key.EcKeyText.{EcKeyText}
+use Rattle.certificate_text.specs.declared.private_key.PrivateKeyText.{PrivateKeyText}
+use Rattle.certificate_text.specs.declared.public_key.PublicKeyText.{PublicKeyText}
+use Rattle.certificate_text.specs.Algorithms.{IsEncrypted, encrypted_text}
+use Rattle.certificate_text.specs.CurveKeys.{IsCurveKey as IsCurveFields, ec_key_text}
+use Rattle.certificate_text.specs.PrivateKeys.{IsPrivateKey as IsKeyShown, private_key_text}
+use Rattle.certificate_text.specs.PublicKeys.{IsPublicKey as IsPublicShown, public_key_text}
+use Rattle.certificate_text.specs.RsaKeys.{rsa_key_text}
 use Rattle.der_show.specs.ByTypes.{ShowsByType}
 use Rattle.x509_keys.specs.Fields.{KeyFault}
 use Rattle.x509_keys.specs.Keys.{key_of, rsa_of, whole_key, whole_rsa_key}

@@ -4,7 +4,7 @@ ghost use Rattle.der_show.specs.Messages.{IsCurveKey, IsEncryptedKey, IsPrivateK
 
 use crate::message::Found;
 use crate::text::text_of;
-use message_text::{EcKeyText, EncryptedKeyText, PrivateKeyText, PublicKeyText, RsaKeyText};
+use certificate_text::{EcKeyText, EncryptedKeyText, PrivateKeyText, PublicKeyText, RsaKeyText};
 use std::alloc::Global;
 use x509_keys::{
     read_ec_private_key, read_encrypted_key, read_private_key, read_public_key,

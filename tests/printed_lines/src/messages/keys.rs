@@ -3,7 +3,7 @@ use crate::messages::key_fields::{Described, Numbered};
 use anyhow::{Result, ensure};
 use bstr::ByteSlice;
 use der_input::next_block;
-use message_text::{EcKeyText, EncryptedKeyText, PrivateKeyText, PublicKeyText, RsaKeyText};
+use certificate_text::{EcKeyText, EncryptedKeyText, PrivateKeyText, PublicKeyText, RsaKeyText};
 use x509_keys::{
     read_ec_private_key, read_encrypted_key, read_private_key, read_public_key,
     read_rsa_private_key,

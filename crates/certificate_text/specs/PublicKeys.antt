@@ -4,12 +4,12 @@ use Rattle.der_print.specs.declared.style.Limit.TheVariants.{Whole}
 use Rattle.der_print.specs.Values.{hex_text}
 use Rattle.x509_keys.specs.declared.public.SubjectPublicKeyInfo.{SubjectPublicKeyInfo}
 use Rattle.x509_keys.specs.OtherKeys.{whole_rsa_public_key}
-use Rattle.message_text.specs.declared.public_key.PublicInside.{PublicInside}
-use Rattle.message_text.specs.declared.public_key.PublicInside.TheVariants.{Rsa, Other}
-use Rattle.message_text.specs.declared.public_key.PublicKeyText.{PublicKeyText}
-use Rattle.message_text.specs.Algorithms.{IsAlgorithm, algorithm_text}
-use Rattle.message_text.specs.PrivateKeys.{Finds, rsa_encryption}
-use Rattle.message_text.specs.RsaKeys.{public_numbers_text}
+use Rattle.certificate_text.specs.declared.public_key.PublicInside.{PublicInside}
+use Rattle.certificate_text.specs.declared.public_key.PublicInside.TheVariants.{Rsa, Other}
+use Rattle.certificate_text.specs.declared.public_key.PublicKeyText.{PublicKeyText}
+use Rattle.certificate_text.specs.Algorithms.{IsAlgorithm, algorithm_text}
+use Rattle.certificate_text.specs.PrivateKeys.{Finds, rsa_encryption}
+use Rattle.certificate_text.specs.RsaKeys.{public_numbers_text}
 
 -- the key of RSA that octets are, or the octets
 abbrev pub IsRsaPublic : List ℕ → PublicInside → Type 0

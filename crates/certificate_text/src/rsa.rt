@@ -1,7 +1,7 @@
 //! RSA keys (RFC 8017 A.1).
 ghost use Rattle.std.specs.Prelude.{◌≡◌};
 ghost use Rattle.der_print.specs.Values.{without_leading_zero};
-ghost use Rattle.message_text.specs.RsaKeys.{bits_of, size_of};
+ghost use Rattle.certificate_text.specs.RsaKeys.{bits_of, size_of};
 
 use der_print::{Limit, Number};
 use std::fmt;
@@ -18,7 +18,7 @@ pub(crate) struct PublicNumbers<'a> {
 
 impl fmt::Display for PublicNumbers<'_> {
     ghost use Rattle.std.specs.Prelude.{Some};
-    ghost use Rattle.message_text.specs.RsaKeys.{public_numbers_text};
+    ghost use Rattle.certificate_text.specs.RsaKeys.{public_numbers_text};
 
     ghost output = { λ x. Some (public_numbers_text x.modulus.now x.exponent.now) };
 
@@ -46,7 +46,7 @@ struct Size<'a>(&'a [u8]);
 
 impl fmt::Display for Size<'_> {
     ghost use Rattle.std.specs.Prelude.{Some};
-    ghost use Rattle.message_text.specs.RsaKeys.{size_text};
+    ghost use Rattle.certificate_text.specs.RsaKeys.{size_text};
 
     ghost output = { λ x. Some (size_text x.0.now) };
 
@@ -90,7 +90,7 @@ pub(crate) struct PrivateNumbers<'r, 'a>(pub &'r RsaPrivateKey<'a>);
 
 impl fmt::Display for PrivateNumbers<'_, '_> {
     ghost use Rattle.std.specs.Prelude.{Some};
-    ghost use Rattle.message_text.specs.RsaKeys.{private_numbers_text};
+    ghost use Rattle.certificate_text.specs.RsaKeys.{private_numbers_text};
 
     ghost output = { λ x. Some (private_numbers_text x.0.now) };
 
@@ -115,7 +115,7 @@ pub struct RsaKeyText<'r, 'a> {
 
 impl fmt::Display for RsaKeyText<'_, '_> {
     ghost use Rattle.std.specs.Prelude.{Some};
-    ghost use Rattle.message_text.specs.RsaKeys.{rsa_key_text};
+    ghost use Rattle.certificate_text.specs.RsaKeys.{rsa_key_text};
 
     ghost output = { λ x. Some (rsa_key_text x.key.now) };
 

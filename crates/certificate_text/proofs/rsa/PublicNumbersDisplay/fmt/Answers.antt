@@ -2,9 +2,9 @@ use Rattle.std.proofs.Common.{codes}
 use Rattle.std.proofs.Output.{has_written_of_eq}
 use Rattle.der_print.specs.declared.style.Limit.TheVariants.{Whole}
 use Rattle.der_print.specs.Values.{number_text}
-use Rattle.message_text.specs.RsaKeys.{size_text}
+use Rattle.certificate_text.specs.RsaKeys.{size_text}
 use Rattle.type_words.proofs.TextLaws.{six}
-use Rattle.message_text.proofs.rsa.PublicNumbersDisplay.fmt.Goals as goal
+use Rattle.certificate_text.proofs.rsa.PublicNumbersDisplay.fmt.Goals as goal
 
 pub returns-clause-writes : goal.returns-clause-writes
 returns-clause-writes g c =

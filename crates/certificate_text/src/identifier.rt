@@ -1,5 +1,5 @@
 //! Identifiers and their names.
-ghost use Rattle.message_text.specs.Words.{IsNamed};
+ghost use Rattle.certificate_text.specs.Words.{IsNamed};
 
 use der_print::Arcs;
 use oid_names::name_of;
@@ -27,7 +27,7 @@ impl<'a> NamedIdentifier<'a> {
 
 impl fmt::Display for NamedIdentifier<'_> {
     ghost use Rattle.std.specs.Prelude.{Some};
-    ghost use Rattle.message_text.specs.Words.{named_text};
+    ghost use Rattle.certificate_text.specs.Words.{named_text};
 
     ghost output = { λ x. Some (named_text x) };
 

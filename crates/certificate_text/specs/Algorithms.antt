@@ -7,11 +7,11 @@ use Rattle.der_base.specs.declared.header.Class.TheVariants.{Universal}
 use Rattle.der_cursor.specs.Formats.{Element, element_of}
 use Rattle.x509_keys.specs.declared.encrypted.EncryptedPrivateKeyInfo.{EncryptedPrivateKeyInfo}
 use Rattle.x509_keys.specs.declared.key.Algorithm.{Algorithm}
-use Rattle.message_text.specs.declared.algorithm.AlgorithmText.{AlgorithmText}
-use Rattle.message_text.specs.declared.algorithm.EncryptedKeyText.{EncryptedKeyText}
-use Rattle.message_text.specs.declared.algorithm.ParametersText.{ParametersText}
-use Rattle.message_text.specs.declared.algorithm.ParametersText.TheVariants.{Absent, Curve, Other}
-use Rattle.message_text.specs.Words.{IsNamed, named_text}
+use Rattle.certificate_text.specs.declared.algorithm.AlgorithmText.{AlgorithmText}
+use Rattle.certificate_text.specs.declared.algorithm.EncryptedKeyText.{EncryptedKeyText}
+use Rattle.certificate_text.specs.declared.algorithm.ParametersText.{ParametersText}
+use Rattle.certificate_text.specs.declared.algorithm.ParametersText.TheVariants.{Absent, Curve, Other}
+use Rattle.certificate_text.specs.Words.{IsNamed, named_text}
 use Rattle.type_words.specs.Texts.{count_text}
 
 abbrev pub is_universal : Class → Bool

@@ -1,4 +1,4 @@
-use Rattle.message_text.proofs.public_key.find_rsa_key.Goals as goal
+use Rattle.certificate_text.proofs.public_key.find_rsa_key.Goals as goal
 
 pub returns-in-Ok : goal.returns-in-Ok
 returns-in-Ok c = c.in-Ok.ensures.found

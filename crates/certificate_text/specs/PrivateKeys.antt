@@ -9,12 +9,12 @@ use Rattle.x509_keys.specs.declared.key.PrivateKeyInfo.{PrivateKeyInfo}
 use Rattle.x509_keys.specs.Fields.{KeyFault}
 use Rattle.x509_keys.specs.Keys.{bits_of, rsa_of, whole_rsa_key}
 use Rattle.x509_keys.specs.OtherKeys.{ec_of, whole_ec_key}
-use Rattle.message_text.specs.declared.private_key.Inside.{Inside}
-use Rattle.message_text.specs.declared.private_key.Inside.TheVariants.{Rsa, Curve, Other}
-use Rattle.message_text.specs.declared.private_key.PrivateKeyText.{PrivateKeyText}
-use Rattle.message_text.specs.Algorithms.{IsAlgorithm, algorithm_text}
-use Rattle.message_text.specs.CurveKeys.{IsCurveKey, curve_fields_text, key_octets, public_text}
-use Rattle.message_text.specs.RsaKeys.{private_numbers_text}
+use Rattle.certificate_text.specs.declared.private_key.Inside.{Inside}
+use Rattle.certificate_text.specs.declared.private_key.Inside.TheVariants.{Rsa, Curve, Other}
+use Rattle.certificate_text.specs.declared.private_key.PrivateKeyText.{PrivateKeyText}
+use Rattle.certificate_text.specs.Algorithms.{IsAlgorithm, algorithm_text}
+use Rattle.certificate_text.specs.CurveKeys.{IsCurveKey, curve_fields_text, key_octets, public_text}
+use Rattle.certificate_text.specs.RsaKeys.{private_numbers_text}
 use Rattle.type_words.specs.Texts.{count_text}
 
 -- rsaEncryption: 1.2.840.113549.1.1.1 (RFC 8017 A.1)

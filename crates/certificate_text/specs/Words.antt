@@ -2,7 +2,7 @@
 use Rattle.std.specs.Prelude.{◌≡◌, ℕ, false, IfSome, Option, Some, None, List, ◌++◌, codes}
 use Rattle.std.specs.Option.{option_copied}
 use Rattle.der_print.specs.Values.{IsNameOf, identifier_text}
-use Rattle.message_text.specs.declared.identifier.NamedIdentifier.{NamedIdentifier}
+use Rattle.certificate_text.specs.declared.identifier.NamedIdentifier.{NamedIdentifier}
 use Rattle.type_words.specs.Texts.{text_of}
 
 -- a name, if there is one, and the arcs of its identifier

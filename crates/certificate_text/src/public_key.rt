@@ -1,7 +1,7 @@
 //! Public keys (RFC 5280 4.1.2.7).
 ghost use Rattle.std.specs.Option.{option_map};
-ghost use Rattle.message_text.specs.PrivateKeys.{Finds};
-ghost use Rattle.message_text.specs.PublicKeys.{IsPublicInside, IsPublicKey};
+ghost use Rattle.certificate_text.specs.PrivateKeys.{Finds};
+ghost use Rattle.certificate_text.specs.PublicKeys.{IsPublicInside, IsPublicKey};
 ghost use Rattle.x509_keys.specs.OtherKeys.{rsa_public_of, whole_rsa_public_key};
 
 use crate::algorithm::AlgorithmText;
@@ -49,7 +49,7 @@ fn find_rsa_key(octets: &[u8]) -> Option<RsaPublicKey<'_>>
 
 impl fmt::Display for PublicInside<'_> {
     ghost use Rattle.std.specs.Prelude.{Some};
-    ghost use Rattle.message_text.specs.PublicKeys.{public_inside_text};
+    ghost use Rattle.certificate_text.specs.PublicKeys.{public_inside_text};
 
     ghost output = { λ x. Some (public_inside_text x) };
 
@@ -85,7 +85,7 @@ impl<'a> PublicKeyText<'a> {
 
 impl fmt::Display for PublicKeyText<'_> {
     ghost use Rattle.std.specs.Prelude.{Some};
-    ghost use Rattle.message_text.specs.PublicKeys.{public_key_text};
+    ghost use Rattle.certificate_text.specs.PublicKeys.{public_key_text};
 
     ghost output = { λ x. Some (public_key_text x) };
 

@@ -11,7 +11,7 @@ pub(crate) struct TextField<'l, 'a> {
 
 impl fmt::Display for TextField<'_, '_> {
     ghost use Rattle.std.specs.Prelude.{Some};
-    ghost use Rattle.message_text.specs.Words.{field_text};
+    ghost use Rattle.certificate_text.specs.Words.{field_text};
 
     ghost output = { λ x. Some (field_text x.label.now x.octets.now) };
 

@@ -2,7 +2,7 @@
 ghost use Rattle.std.specs.Prelude.{◌≡◌, Some};
 ghost use Rattle.std.specs.Fmt.{DisplaysOnOk};
 ghost use Rattle.std.specs.Option.{option_copied, option_map};
-ghost use Rattle.message_text.specs.CurveKeys.{IsCurveKey, key_octets, public_text};
+ghost use Rattle.certificate_text.specs.CurveKeys.{IsCurveKey, key_octets, public_text};
 ghost use Rattle.x509_keys.specs.Keys.{bits_of};
 
 use crate::algorithm::ParametersText;
@@ -44,7 +44,7 @@ pub(crate) fn octets_of(bits: Option<BitString<'_>>) -> Option<&[u8]>
 
 impl fmt::Display for CurveFields<'_> {
     ghost use Rattle.std.specs.Prelude.{Some};
-    ghost use Rattle.message_text.specs.CurveKeys.{curve_fields_text};
+    ghost use Rattle.certificate_text.specs.CurveKeys.{curve_fields_text};
 
     ghost output = { λ x. Some (curve_fields_text x) };
 
@@ -92,7 +92,7 @@ impl<'a> EcKeyText<'a> {
 
 impl fmt::Display for EcKeyText<'_> {
     ghost use Rattle.std.specs.Prelude.{Some};
-    ghost use Rattle.message_text.specs.CurveKeys.{ec_key_text};
+    ghost use Rattle.certificate_text.specs.CurveKeys.{ec_key_text};
 
     ghost output = { λ x. Some (ec_key_text x) };
 

@@ -6,9 +6,9 @@ use Rattle.der_print.specs.declared.style.Limit.TheVariants.{Whole}
 use Rattle.der_print.specs.Values.{hex_text}
 use Rattle.x509_keys.specs.declared.curve.EcPrivateKey.{EcPrivateKey}
 use Rattle.x509_keys.specs.Keys.{bits_of}
-use Rattle.message_text.specs.declared.curve_key.CurveFields.{CurveFields}
-use Rattle.message_text.specs.declared.curve_key.EcKeyText.{EcKeyText}
-use Rattle.message_text.specs.Algorithms.{IsParameters, parameters_text}
+use Rattle.certificate_text.specs.declared.curve_key.CurveFields.{CurveFields}
+use Rattle.certificate_text.specs.declared.curve_key.EcKeyText.{EcKeyText}
+use Rattle.certificate_text.specs.Algorithms.{IsParameters, parameters_text}
 use Rattle.type_words.specs.Texts.{count_text}
 
 -- the octets of bits

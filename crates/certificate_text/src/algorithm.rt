@@ -2,7 +2,7 @@
 ghost use Rattle.std.specs.Prelude.{◌≡◌};
 ghost use Rattle.std.specs.Option.{option_map};
 ghost use Rattle.der_cursor.specs.Formats.{element_of};
-ghost use Rattle.message_text.specs.Algorithms.{IsAlgorithm, IsEncrypted, IsParameters, is_identifier};
+ghost use Rattle.certificate_text.specs.Algorithms.{IsAlgorithm, IsEncrypted, IsParameters, is_identifier};
 
 use crate::identifier::NamedIdentifier;
 use der_base::any::Any;
@@ -48,7 +48,7 @@ fn is_identifier(element: Any<'_>) -> bool
 /// A line for a curve, and for other parameters if they have content octets. NULL has none.
 impl fmt::Display for ParametersText<'_> {
     ghost use Rattle.std.specs.Prelude.{Some};
-    ghost use Rattle.message_text.specs.Algorithms.{parameters_text};
+    ghost use Rattle.certificate_text.specs.Algorithms.{parameters_text};
 
     ghost output = { λ x. Some (parameters_text x) };
 
@@ -86,7 +86,7 @@ impl<'a> AlgorithmText<'a> {
 
 impl fmt::Display for AlgorithmText<'_> {
     ghost use Rattle.std.specs.Prelude.{Some};
-    ghost use Rattle.message_text.specs.Algorithms.{algorithm_text};
+    ghost use Rattle.certificate_text.specs.Algorithms.{algorithm_text};
 
     ghost output = { λ x. Some (algorithm_text x) };
 
@@ -118,7 +118,7 @@ impl<'a> EncryptedKeyText<'a> {
 
 impl fmt::Display for EncryptedKeyText<'_> {
     ghost use Rattle.std.specs.Prelude.{Some};
-    ghost use Rattle.message_text.specs.Algorithms.{encrypted_text};
+    ghost use Rattle.certificate_text.specs.Algorithms.{encrypted_text};
 
     ghost output = { λ x. Some (encrypted_text x) };
 

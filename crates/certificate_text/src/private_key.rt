@@ -2,7 +2,7 @@
 ghost use Rattle.std.specs.Prelude.{◌≡◌, Some};
 ghost use Rattle.std.specs.Fmt.{DisplaysOnOk};
 ghost use Rattle.std.specs.Option.{option_map};
-ghost use Rattle.message_text.specs.PrivateKeys.{Finds, IsInside, IsPrivateKey, attributes_size, attributes_text};
+ghost use Rattle.certificate_text.specs.PrivateKeys.{Finds, IsInside, IsPrivateKey, attributes_size, attributes_text};
 ghost use Rattle.x509_keys.specs.Keys.{rsa_of, whole_rsa_key};
 ghost use Rattle.x509_keys.specs.OtherKeys.{ec_of, whole_ec_key};
 
@@ -46,7 +46,7 @@ impl<'a> Inside<'a> {
 }
 
 impl<'a> Inside<'a> {
-    ghost use Rattle.message_text.specs.PrivateKeys.{IsCurveInside, IsRsaInside};
+    ghost use Rattle.certificate_text.specs.PrivateKeys.{IsCurveInside, IsRsaInside};
 
     /// Reads an RSA key, if the octets are one.
     fn of_rsa(octets: &'a [u8]) -> Inside<'a>
@@ -91,7 +91,7 @@ fn find_curve_key(octets: &[u8]) -> Option<EcPrivateKey<'_>>
 
 impl fmt::Display for Inside<'_> {
     ghost use Rattle.std.specs.Prelude.{Some};
-    ghost use Rattle.message_text.specs.PrivateKeys.{inside_text};
+    ghost use Rattle.certificate_text.specs.PrivateKeys.{inside_text};
 
     ghost output = { λ x. Some (inside_text x) };
 
@@ -148,7 +148,7 @@ fn size_of(key: &PrivateKeyInfo<'_>) -> Option<usize>
 
 impl fmt::Display for PrivateKeyText<'_> {
     ghost use Rattle.std.specs.Prelude.{Some};
-    ghost use Rattle.message_text.specs.PrivateKeys.{private_key_text};
+    ghost use Rattle.certificate_text.specs.PrivateKeys.{private_key_text};
 
     ghost output = { λ x. Some (private_key_text x) };
 

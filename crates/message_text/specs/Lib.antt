@@ -1,6 +1,0 @@
-pub mod Algorithms
-pub mod CurveKeys
-pub mod PrivateKeys
-pub mod PublicKeys
-pub mod RsaKeys
-pub mod Words
