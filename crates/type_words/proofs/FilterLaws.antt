@@ -1,5 +1,5 @@
 -- The filter that octets begin with.
-use Rattle.std.proofs.Common.{◌≡◌, ◌≢◌, ℕ, List, Ok, Err, inl, subst, sym}
+use Rattle.std.proofs.Common.{◌≢◌, ℕ, List, Ok, Err, inl, subst, sym}
 use Rattle.std.specs.Global.{Vec}
 use Rattle.der_base.specs.declared.error.Err.TheVariants.{OutOfMemory}
 use Rattle.der_base.specs.declared.error.Error.{Error as BerError}

@@ -1,4 +1,4 @@
-use Rattle.type_words.proofs.FilterLaws.{filter_read, no_filter}
+use Rattle.type_words.proofs.FilterLaws.{filter_read}
 use Rattle.type_words.proofs.filter.read_filter.Goals as goal
 
 pub returns-in-Ok : goal.returns-in-Ok
