@@ -21,10 +21,7 @@ type Read<T> = Result<T, Refusal<BerError>>;
 pub const DEEPEST_FILTER: usize = 32;
 
 /// Reads the filter of a search.
-pub fn read_search_filter<'a>(
-    alloc: Global,
-    list: &mut Cursor<'a>,
-) -> Read<Vec<FilterPart<'a>>>
+pub fn read_search_filter<'a>(alloc: Global, list: &mut Cursor<'a>) -> Read<Vec<FilterPart<'a>>>
     ensures { ReadsField (FilterField 32) (λ x. filter_of x.items) NoMemory list.old result list.new }
 {
     let mut parts = Vec::new(alloc);
