@@ -1,5 +1,5 @@
 //! Messages of LDAP (RFC 4511).
-use crate::numbered::FILTER;
+use crate::numbered::{FILTER, RESULT_CODE};
 use crate::universal::{BOOLEAN, ENUMERATED, INTEGER, OCTET_STRING};
 use der_schema::schema::{Component, Inside, Type};
 use der_schema::words::NumberName;
@@ -57,8 +57,14 @@ const RESULTS: &[NumberName] = names![
     68 "entryAlreadyExists", 69 "objectClassModsProhibited", 71 "affectsMultipleDSAs", 80 "other",
 ];
 
+static RESULT_CODE_TYPE: Component = field!("" ENUMERATED => "Result" NumberOf(RESULTS));
+
+fn result_code() -> &'static Component {
+    &RESULT_CODE_TYPE
+}
+
 /// The components of an LDAPResult (RFC 4511 4.1.9).
-const RESULT_CODE: Component = field!("resultCode" ENUMERATED => "Result" NumberOf(RESULTS));
+const RESULT: Component = field!("resultCode" RESULT_CODE);
 
 const MATCHED: Component = field!("matchedDN" OCTET_STRING => "Matched name" Text);
 
@@ -68,7 +74,7 @@ const REFERRAL: Component = optional!("referral" implicit!(3 Inside::Each(
     &field!("uri" OCTET_STRING => "Referral" Text)
 )));
 
-const RESULT: Inside = Inside::Components(&[RESULT_CODE, MATCHED, DIAGNOSTIC, REFERRAL]);
+const OUTCOME: Inside = Inside::Components(&[RESULT, MATCHED, DIAGNOSTIC, REFERRAL]);
 
 const ATTRIBUTE: Type = sequence![
     field!("type" OCTET_STRING => "Attribute" Text heads),
@@ -121,7 +127,7 @@ const MODIFY_REQUEST: Inside = Inside::Components(&[
 const OPERATIONS: Type = Type::Choice(&[
     field!("bindRequest" tagged!(Application 0 Constructed BIND_REQUEST) => "Operation" Word("BindRequest")),
     field!("bindResponse" tagged!(Application 1 Constructed Inside::Components(&[
-        RESULT_CODE,
+        RESULT,
         MATCHED,
         DIAGNOSTIC,
         REFERRAL,
@@ -133,38 +139,38 @@ const OPERATIONS: Type = Type::Choice(&[
         field!("objectName" OCTET_STRING => "Name" Text),
         field!("attributes" sequence_of!(field!("partialAttribute" ATTRIBUTE))),
     ])) => "Operation" Word("SearchResultEntry")),
-    field!("searchResDone" tagged!(Application 5 Constructed RESULT) => "Operation" Word("SearchResultDone")),
+    field!("searchResDone" tagged!(Application 5 Constructed OUTCOME) => "Operation" Word("SearchResultDone")),
     field!("searchResRef" tagged!(Application 19 Constructed Inside::Each(
         &field!("uri" OCTET_STRING => "Reference" Text)
     )) => "Operation" Word("SearchResultReference")),
     field!("modifyRequest" tagged!(Application 6 Constructed MODIFY_REQUEST) => "Operation" Word("ModifyRequest")),
-    field!("modifyResponse" tagged!(Application 7 Constructed RESULT) => "Operation" Word("ModifyResponse")),
+    field!("modifyResponse" tagged!(Application 7 Constructed OUTCOME) => "Operation" Word("ModifyResponse")),
     field!("addRequest" tagged!(Application 8 Constructed Inside::Components(&[
         field!("entry" OCTET_STRING => "Name" Text),
         field!("attributes" ATTRIBUTES),
     ])) => "Operation" Word("AddRequest")),
-    field!("addResponse" tagged!(Application 9 Constructed RESULT) => "Operation" Word("AddResponse")),
+    field!("addResponse" tagged!(Application 9 Constructed OUTCOME) => "Operation" Word("AddResponse")),
     field!("delRequest" tagged!(Application 10 Either Inside::Free) => "Operation" "DelRequest" Text),
-    field!("delResponse" tagged!(Application 11 Constructed RESULT) => "Operation" Word("DelResponse")),
+    field!("delResponse" tagged!(Application 11 Constructed OUTCOME) => "Operation" Word("DelResponse")),
     field!("modDNRequest" tagged!(Application 12 Constructed Inside::Components(&[
         field!("entry" OCTET_STRING => "Name" Text),
         field!("newrdn" OCTET_STRING => "New name" Text),
         field!("deleteoldrdn" BOOLEAN => "Delete old name" Boolean),
         optional!("newSuperior" implicit!(0 string) => "New superior" Text),
     ])) => "Operation" Word("ModifyDNRequest")),
-    field!("modDNResponse" tagged!(Application 13 Constructed RESULT) => "Operation" Word("ModifyDNResponse")),
+    field!("modDNResponse" tagged!(Application 13 Constructed OUTCOME) => "Operation" Word("ModifyDNResponse")),
     field!("compareRequest" tagged!(Application 14 Constructed Inside::Components(&[
         field!("entry" OCTET_STRING => "Name" Text),
         field!("ava" tagged!(Universal 16 Constructed ASSERTION)),
     ])) => "Operation" Word("CompareRequest")),
-    field!("compareResponse" tagged!(Application 15 Constructed RESULT) => "Operation" Word("CompareResponse")),
+    field!("compareResponse" tagged!(Application 15 Constructed OUTCOME) => "Operation" Word("CompareResponse")),
     field!("abandonRequest" tagged!(Application 16 Primitive Inside::Free) => "Operation" "AbandonRequest" Number),
     field!("extendedReq" tagged!(Application 23 Constructed Inside::Components(&[
         field!("requestName" implicit!(0 string) => "OID" Text),
         optional!("requestValue" implicit!(1 string)),
     ])) => "Operation" Word("ExtendedRequest")),
     field!("extendedResp" tagged!(Application 24 Constructed Inside::Components(&[
-        RESULT_CODE,
+        RESULT,
         MATCHED,
         DIAGNOSTIC,
         REFERRAL,
@@ -193,6 +199,6 @@ fn ldap_message() -> &'static Component {
 }
 
 /// The types of this module, in the order of their numbers.
-pub(crate) fn types() -> [&'static Component; 2] {
-    [ldap_message(), filter()]
+pub(crate) fn types() -> [&'static Component; 3] {
+    [ldap_message(), filter(), result_code()]
 }

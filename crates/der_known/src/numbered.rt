@@ -185,8 +185,11 @@ pub(crate) const HOST_ADDRESS: Type = Type::Numbered(79);
 
 pub(crate) const TICKET_ALONE: Type = Type::Numbered(80);
 
+// LDAP's results.
+pub(crate) const RESULT_CODE: Type = Type::Numbered(81);
+
 /// The number of types.
-pub(crate) const COUNT: usize = 81;
+pub(crate) const COUNT: usize = 82;
 
 /// The types, each at its number.
 pub(crate) fn types() -> [&'static Component; COUNT]
@@ -255,7 +258,7 @@ pub(crate) fn types() -> [&'static Component; COUNT]
     let [pfx, authenticated_safe, safe_contents] = pkcs12::types();
     let [ocsp_request, ocsp_response] = ocsp::types();
     let [snmp_message, snmp_v3_message, pdus, var_bind] = snmp::types();
-    let [ldap_message, filter] = ldap::types();
+    let [ldap_message, filter, result_code] = ldap::types();
     let [
         as_request,
         as_reply,
@@ -357,5 +360,6 @@ pub(crate) fn types() -> [&'static Component; COUNT]
         principal,
         host_address,
         ticket_alone,
+        result_code,
     ]
 }

@@ -103,33 +103,33 @@ fn snmp_message() -> &'static Component {
 
 /// The parameters of the user-based security model (RFC 3414 2.4).
 const USER_SECURITY: Component = field!("usmSecurityParameters" sequence![
-    field!("msgAuthoritativeEngineID" OCTET_STRING),
-    field!("msgAuthoritativeEngineBoots" INTEGER),
-    field!("msgAuthoritativeEngineTime" INTEGER),
-    field!("msgUserName" OCTET_STRING),
+    field!("msgAuthoritativeEngineID" OCTET_STRING => "Engine" Hex),
+    field!("msgAuthoritativeEngineBoots" INTEGER => "Engine boots" Number),
+    field!("msgAuthoritativeEngineTime" INTEGER => "Engine time" Number),
+    field!("msgUserName" OCTET_STRING => "User" Octets),
     field!("msgAuthenticationParameters" OCTET_STRING),
     field!("msgPrivacyParameters" OCTET_STRING),
 ]);
 
 /// A message of version 3 (RFC 3412 6).
 static SNMP_V3_MESSAGE_TYPE: Component = field!("snmpv3Message" sequence![
-    field!("msgVersion" INTEGER),
+    field!("msgVersion" INTEGER => "Version" Number),
     field!("msgGlobalData" sequence![
-            field!("msgID" INTEGER),
-            field!("msgMaxSize" INTEGER),
-            field!("msgFlags" OCTET_STRING),
-            field!("msgSecurityModel" INTEGER),
-        ]),
+        field!("msgID" INTEGER => "Message" Number),
+        field!("msgMaxSize" INTEGER => "Largest message" Number),
+        field!("msgFlags" OCTET_STRING => "Flags" Hex),
+        field!("msgSecurityModel" INTEGER => "Security model" Number),
+    ]),
     field!("msgSecurityParameters" string!(4 Inside::Holds(&[USER_SECURITY]))),
     field!("msgData" Type::Choice(&[
-            field!("plaintext" sequence![
-                field!("contextEngineID" OCTET_STRING),
-                field!("contextName" OCTET_STRING),
-                field!("data" PDUS),
-            ]),
-            field!("encryptedPDU" OCTET_STRING),
-        ])),
-]);
+        field!("plaintext" sequence![
+            field!("contextEngineID" OCTET_STRING => "Context engine" Hex),
+            field!("contextName" OCTET_STRING => "Context" Octets),
+            field!("data" PDUS),
+        ]),
+        field!("encryptedPDU" OCTET_STRING => "Encrypted PDU" Length),
+    ])),
+] => "SNMP message" Title);
 
 fn snmp_v3_message() -> &'static Component {
     &SNMP_V3_MESSAGE_TYPE
