@@ -1,5 +1,5 @@
 //! The names and paths that the types of der_known give elements, beside those of asn1crypto, which `tools/field-names`
-//! writes.
+//! writes, and those of pyasn1's types, which `tools/known-types` writes.
 //!
 //! A line of input has the name of a type, ascending offsets of elements, and the octets. The line of output has the
 //! names of these elements, or with the argument `paths` their paths, and the first known type that the octets are of.
