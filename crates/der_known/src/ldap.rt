@@ -1,5 +1,10 @@
 //! Messages of LDAP (RFC 4511).
-use crate::numbered::{FILTER, RESULT_CODE};
+use crate::numbered::{
+    AUTHENTICATION, CHANGE, CHANGED, DELETES_OLD_NAME, DEREFERENCING, DIAGNOSTIC_MESSAGE, FILTER,
+    LDAP_ASSERTION, LDAP_IDENTIFIER, LDAP_NAME, LDAP_OPERATION, LDAP_RESULT_CODE, MATCHED_NAME,
+    MECHANISM, NEW_NAME, NEW_SUPERIOR, PARTIAL_ATTRIBUTE, REFERRAL, SCOPE, SELECTOR, SIZE_LIMIT,
+    TIME_LIMIT, TYPES_ONLY,
+};
 use crate::universal::{BOOLEAN, ENUMERATED, INTEGER, OCTET_STRING};
 use der_schema::schema::{Component, Inside, Type};
 use der_schema::words::NumberName;
@@ -57,42 +62,78 @@ const RESULTS: &[NumberName] = names![
     68 "entryAlreadyExists", 69 "objectClassModsProhibited", 71 "affectsMultipleDSAs", 80 "other",
 ];
 
-static RESULT_CODE_TYPE: Component = field!("" ENUMERATED => "Result" NumberOf(RESULTS));
+static RESULT_CODE_TYPE: Component = field!("resultCode" ENUMERATED => "Result" NumberOf(RESULTS));
 
 fn result_code() -> &'static Component {
     &RESULT_CODE_TYPE
 }
 
-/// The components of an LDAPResult (RFC 4511 4.1.9).
-const RESULT: Component = field!("resultCode" RESULT_CODE);
+static NAME_TYPE: Component = field!("" OCTET_STRING => "Name" Text);
 
-const MATCHED: Component = field!("matchedDN" OCTET_STRING => "Matched name" Text);
+static IDENTIFIER_TYPE: Component = field!("" implicit!(0 string) => "OID" Text);
 
-const DIAGNOSTIC: Component = field!("diagnosticMessage" OCTET_STRING => "Diagnostic message" Text);
+static NEW_NAME_TYPE: Component = field!("newrdn" OCTET_STRING => "New name" Text);
 
-const REFERRAL: Component = optional!("referral" implicit!(3 Inside::Each(
+static DELETES_OLD_NAME_TYPE: Component =
+    field!("deleteoldrdn" BOOLEAN => "Delete old name" Boolean);
+
+static LDAP_ASSERTION_TYPE: Component = field!("ava" tagged!(Universal 16 Constructed ASSERTION));
+
+static NEW_SUPERIOR_TYPE: Component =
+    field!("newSuperior" implicit!(0 string) => "New superior" Text);
+
+static MECHANISM_TYPE: Component = field!("mechanism" OCTET_STRING => "Mechanism" Text);
+
+static SELECTOR_TYPE: Component = field!("selector" OCTET_STRING => "Attribute" Text);
+
+static MATCHED_NAME_TYPE: Component = field!("matchedDN" OCTET_STRING => "Matched name" Text);
+
+static DIAGNOSTIC_MESSAGE_TYPE: Component =
+    field!("diagnosticMessage" OCTET_STRING => "Diagnostic message" Text);
+
+static REFERRAL_TYPE: Component = field!("referral" implicit!(3 Inside::Each(
     &field!("uri" OCTET_STRING => "Referral" Text)
 )));
 
-const OUTCOME: Inside = Inside::Components(&[RESULT, MATCHED, DIAGNOSTIC, REFERRAL]);
+/// The components of an LDAPResult (RFC 4511 4.1.9).
+const RESULT_CODE: Component = field!("" LDAP_RESULT_CODE);
 
-const ATTRIBUTE: Type = sequence![
+const MATCHED: Component = field!("" MATCHED_NAME);
+
+const DIAGNOSTIC: Component = field!("" DIAGNOSTIC_MESSAGE);
+
+const REFERRALS: Component = optional!("" REFERRAL);
+
+const RESULT: Inside = Inside::Components(&[RESULT_CODE, MATCHED, DIAGNOSTIC, REFERRALS]);
+
+/// A PartialAttribute (RFC 4511 4.1.7).
+static PARTIAL_ATTRIBUTE_TYPE: Component = field!("attribute" sequence![
     field!("type" OCTET_STRING => "Attribute" Text heads),
     field!("vals" set_of!(field!("value" OCTET_STRING => "Value" TextOrHex))),
-];
+]);
 
-const ATTRIBUTES: Type = sequence_of!(field!("attribute" ATTRIBUTE));
+fn partial_attribute() -> &'static Component {
+    &PARTIAL_ATTRIBUTE_TYPE
+}
+
+const ATTRIBUTES: Type = sequence_of!(field!("" PARTIAL_ATTRIBUTE));
+
+static AUTHENTICATION_TYPE: Component = field!("authentication" Type::Choice(&[
+    field!("simple" implicit!(0 string)),
+    field!("sasl" implicit!(3 Inside::Components(&[
+        field!("" MECHANISM),
+        optional!("credentials" OCTET_STRING),
+    ]))),
+]));
+
+fn authentication() -> &'static Component {
+    &AUTHENTICATION_TYPE
+}
 
 const BIND_REQUEST: Inside = Inside::Components(&[
     field!("version" INTEGER => "Version" Number),
-    field!("name" OCTET_STRING => "Name" Text),
-    field!("authentication" Type::Choice(&[
-        field!("simple" implicit!(0 string)),
-        field!("sasl" implicit!(3 Inside::Components(&[
-            field!("mechanism" OCTET_STRING => "Mechanism" Text),
-            optional!("credentials" OCTET_STRING),
-        ]))),
-    ])),
+    field!("name" LDAP_NAME),
+    field!("" AUTHENTICATION),
 ]);
 
 const SCOPES: &[NumberName] = names![0 "baseObject", 1 "singleLevel", 2 "wholeSubtree"];
@@ -101,92 +142,115 @@ const ALIASES: &[NumberName] = names![
     0 "neverDerefAliases", 1 "derefInSearching", 2 "derefFindingBaseObj", 3 "derefAlways",
 ];
 
+static SCOPE_TYPE: Component = field!("scope" ENUMERATED => "Scope" NumberOf(SCOPES));
+
+static DEREFERENCING_TYPE: Component =
+    field!("derefAliases" ENUMERATED => "Aliases" NumberOf(ALIASES));
+
+static SIZE_LIMIT_TYPE: Component = field!("sizeLimit" INTEGER => "Size limit" Number);
+
+static TIME_LIMIT_TYPE: Component = field!("timeLimit" INTEGER => "Time limit" Number);
+
+static TYPES_ONLY_TYPE: Component = field!("typesOnly" BOOLEAN => "Types only" Boolean);
+
 const SEARCH_REQUEST: Inside = Inside::Components(&[
-    field!("baseObject" OCTET_STRING => "Name" Text),
-    field!("scope" ENUMERATED => "Scope" NumberOf(SCOPES)),
-    field!("derefAliases" ENUMERATED => "Aliases" NumberOf(ALIASES)),
-    field!("sizeLimit" INTEGER => "Size limit" Number),
-    field!("timeLimit" INTEGER => "Time limit" Number),
-    field!("typesOnly" BOOLEAN => "Types only" Boolean),
+    field!("baseObject" LDAP_NAME),
+    field!("" SCOPE),
+    field!("" DEREFERENCING),
+    field!("" SIZE_LIMIT),
+    field!("" TIME_LIMIT),
+    field!("" TYPES_ONLY),
     field!("filter" FILTER => "Filter" Filter),
-    field!("attributes" sequence_of!(field!("selector" OCTET_STRING => "Attribute" Text))),
+    field!("attributes" sequence_of!(field!("" SELECTOR))),
 ]);
 
 /// The names of a change's operation (RFC 4511 4.6, RFC 4525 3).
 const CHANGES: &[NumberName] = names![0 "add", 1 "delete", 2 "replace", 3 "increment"];
 
+static CHANGE_TYPE: Component = field!("operation" ENUMERATED => "Change" NumberOf(CHANGES));
+
+static CHANGED_TYPE: Component = field!("changes" sequence_of!(field!("change" sequence![
+    field!("" CHANGE),
+    field!("modification" PARTIAL_ATTRIBUTE),
+])));
+
+fn changed() -> &'static Component {
+    &CHANGED_TYPE
+}
+
 const MODIFY_REQUEST: Inside = Inside::Components(&[
-    field!("object" OCTET_STRING => "Name" Text),
-    field!("changes" sequence_of!(field!("change" sequence![
-        field!("operation" ENUMERATED => "Change" NumberOf(CHANGES)),
-        field!("modification" ATTRIBUTE),
-    ]))),
+    field!("object" LDAP_NAME),
+    field!("" CHANGED),
 ]);
 
 /// The operations (RFC 4511 4.1.1).
-const OPERATIONS: Type = Type::Choice(&[
+static OPERATION_TYPE: Component = field!("" Type::Choice(&[
     field!("bindRequest" tagged!(Application 0 Constructed BIND_REQUEST) => "Operation" Word("BindRequest")),
     field!("bindResponse" tagged!(Application 1 Constructed Inside::Components(&[
-        RESULT,
+        RESULT_CODE,
         MATCHED,
         DIAGNOSTIC,
-        REFERRAL,
+        REFERRALS,
         optional!("serverSaslCreds" implicit!(7 string)),
     ])) => "Operation" Word("BindResponse")),
     field!("unbindRequest" tagged!(Application 2 Primitive Inside::Free) => "Operation" Word("UnbindRequest")),
     field!("searchRequest" tagged!(Application 3 Constructed SEARCH_REQUEST) => "Operation" Word("SearchRequest")),
     field!("searchResEntry" tagged!(Application 4 Constructed Inside::Components(&[
-        field!("objectName" OCTET_STRING => "Name" Text),
-        field!("attributes" sequence_of!(field!("partialAttribute" ATTRIBUTE))),
+        field!("objectName" LDAP_NAME),
+        field!("attributes" sequence_of!(field!("partialAttribute" PARTIAL_ATTRIBUTE))),
     ])) => "Operation" Word("SearchResultEntry")),
-    field!("searchResDone" tagged!(Application 5 Constructed OUTCOME) => "Operation" Word("SearchResultDone")),
+    field!("searchResDone" tagged!(Application 5 Constructed RESULT) => "Operation" Word("SearchResultDone")),
     field!("searchResRef" tagged!(Application 19 Constructed Inside::Each(
         &field!("uri" OCTET_STRING => "Reference" Text)
     )) => "Operation" Word("SearchResultReference")),
     field!("modifyRequest" tagged!(Application 6 Constructed MODIFY_REQUEST) => "Operation" Word("ModifyRequest")),
-    field!("modifyResponse" tagged!(Application 7 Constructed OUTCOME) => "Operation" Word("ModifyResponse")),
+    field!("modifyResponse" tagged!(Application 7 Constructed RESULT) => "Operation" Word("ModifyResponse")),
     field!("addRequest" tagged!(Application 8 Constructed Inside::Components(&[
-        field!("entry" OCTET_STRING => "Name" Text),
+        field!("entry" LDAP_NAME),
         field!("attributes" ATTRIBUTES),
     ])) => "Operation" Word("AddRequest")),
-    field!("addResponse" tagged!(Application 9 Constructed OUTCOME) => "Operation" Word("AddResponse")),
+    field!("addResponse" tagged!(Application 9 Constructed RESULT) => "Operation" Word("AddResponse")),
     field!("delRequest" tagged!(Application 10 Either Inside::Free) => "Operation" "DelRequest" Text),
-    field!("delResponse" tagged!(Application 11 Constructed OUTCOME) => "Operation" Word("DelResponse")),
+    field!("delResponse" tagged!(Application 11 Constructed RESULT) => "Operation" Word("DelResponse")),
     field!("modDNRequest" tagged!(Application 12 Constructed Inside::Components(&[
-        field!("entry" OCTET_STRING => "Name" Text),
-        field!("newrdn" OCTET_STRING => "New name" Text),
-        field!("deleteoldrdn" BOOLEAN => "Delete old name" Boolean),
-        optional!("newSuperior" implicit!(0 string) => "New superior" Text),
+        field!("entry" LDAP_NAME),
+        field!("" NEW_NAME),
+        field!("" DELETES_OLD_NAME),
+        optional!("" NEW_SUPERIOR),
     ])) => "Operation" Word("ModifyDNRequest")),
-    field!("modDNResponse" tagged!(Application 13 Constructed OUTCOME) => "Operation" Word("ModifyDNResponse")),
+    field!("modDNResponse" tagged!(Application 13 Constructed RESULT) => "Operation" Word("ModifyDNResponse")),
     field!("compareRequest" tagged!(Application 14 Constructed Inside::Components(&[
-        field!("entry" OCTET_STRING => "Name" Text),
-        field!("ava" tagged!(Universal 16 Constructed ASSERTION)),
+        field!("entry" LDAP_NAME),
+        field!("" LDAP_ASSERTION),
     ])) => "Operation" Word("CompareRequest")),
-    field!("compareResponse" tagged!(Application 15 Constructed OUTCOME) => "Operation" Word("CompareResponse")),
+    field!("compareResponse" tagged!(Application 15 Constructed RESULT) => "Operation" Word("CompareResponse")),
     field!("abandonRequest" tagged!(Application 16 Primitive Inside::Free) => "Operation" "AbandonRequest" Number),
     field!("extendedReq" tagged!(Application 23 Constructed Inside::Components(&[
-        field!("requestName" implicit!(0 string) => "OID" Text),
+        field!("requestName" LDAP_IDENTIFIER),
         optional!("requestValue" implicit!(1 string)),
     ])) => "Operation" Word("ExtendedRequest")),
     field!("extendedResp" tagged!(Application 24 Constructed Inside::Components(&[
-        RESULT,
+        RESULT_CODE,
         MATCHED,
         DIAGNOSTIC,
-        REFERRAL,
+        REFERRALS,
         optional!("responseName" implicit!(10 string) => "OID" Text),
         optional!("responseValue" implicit!(11 string)),
     ])) => "Operation" Word("ExtendedResponse")),
     field!("intermediateResponse" tagged!(Application 25 Constructed Inside::Components(&[
-        optional!("responseName" implicit!(0 string) => "OID" Text),
+        optional!("responseName" LDAP_IDENTIFIER),
         optional!("responseValue" implicit!(1 string)),
     ])) => "Operation" Word("IntermediateResponse")),
-]);
+]));
+
+fn operation() -> &'static Component {
+    &OPERATION_TYPE
+}
 
 /// A message of LDAP (RFC 4511 4.1.1).
 static LDAP_MESSAGE_TYPE: Component = field!("ldapMessage" sequence![
     field!("messageID" INTEGER => "Message" Number),
-    field!("protocolOp" OPERATIONS),
+    field!("protocolOp" LDAP_OPERATION),
     optional!("controls" implicit!(0 Inside::Each(&field!("control" sequence![
             field!("controlType" OCTET_STRING => "Control" Text heads),
             optional!("criticality" BOOLEAN => "Critical" Boolean),
@@ -199,6 +263,31 @@ fn ldap_message() -> &'static Component {
 }
 
 /// The types of this module, in the order of their numbers.
-pub(crate) fn types() -> [&'static Component; 3] {
-    [ldap_message(), filter(), result_code()]
+pub(crate) fn types() -> [&'static Component; 24] {
+    [
+        ldap_message(),
+        filter(),
+        result_code(),
+        &MATCHED_NAME_TYPE,
+        &DIAGNOSTIC_MESSAGE_TYPE,
+        &REFERRAL_TYPE,
+        partial_attribute(),
+        operation(),
+        &NAME_TYPE,
+        &SCOPE_TYPE,
+        &DEREFERENCING_TYPE,
+        &CHANGE_TYPE,
+        &IDENTIFIER_TYPE,
+        &NEW_NAME_TYPE,
+        &NEW_SUPERIOR_TYPE,
+        &MECHANISM_TYPE,
+        &SELECTOR_TYPE,
+        authentication(),
+        &SIZE_LIMIT_TYPE,
+        &TIME_LIMIT_TYPE,
+        &TYPES_ONLY_TYPE,
+        &LDAP_ASSERTION_TYPE,
+        &DELETES_OLD_NAME_TYPE,
+        changed(),
+    ]
 }

@@ -185,11 +185,53 @@ pub(crate) const HOST_ADDRESS: Type = Type::Numbered(79);
 
 pub(crate) const TICKET_ALONE: Type = Type::Numbered(80);
 
-// LDAP's results.
-pub(crate) const RESULT_CODE: Type = Type::Numbered(81);
+// LDAP's operations.
+pub(crate) const LDAP_RESULT_CODE: Type = Type::Numbered(81);
+
+pub(crate) const MATCHED_NAME: Type = Type::Numbered(82);
+
+pub(crate) const DIAGNOSTIC_MESSAGE: Type = Type::Numbered(83);
+
+pub(crate) const REFERRAL: Type = Type::Numbered(84);
+
+pub(crate) const PARTIAL_ATTRIBUTE: Type = Type::Numbered(85);
+
+pub(crate) const LDAP_OPERATION: Type = Type::Numbered(86);
+
+pub(crate) const LDAP_NAME: Type = Type::Numbered(87);
+
+pub(crate) const SCOPE: Type = Type::Numbered(88);
+
+pub(crate) const DEREFERENCING: Type = Type::Numbered(89);
+
+pub(crate) const CHANGE: Type = Type::Numbered(90);
+
+pub(crate) const LDAP_IDENTIFIER: Type = Type::Numbered(91);
+
+pub(crate) const NEW_NAME: Type = Type::Numbered(92);
+
+pub(crate) const NEW_SUPERIOR: Type = Type::Numbered(93);
+
+pub(crate) const MECHANISM: Type = Type::Numbered(94);
+
+pub(crate) const SELECTOR: Type = Type::Numbered(95);
+
+pub(crate) const AUTHENTICATION: Type = Type::Numbered(96);
+
+pub(crate) const SIZE_LIMIT: Type = Type::Numbered(97);
+
+pub(crate) const TIME_LIMIT: Type = Type::Numbered(98);
+
+pub(crate) const TYPES_ONLY: Type = Type::Numbered(99);
+
+pub(crate) const LDAP_ASSERTION: Type = Type::Numbered(100);
+
+pub(crate) const DELETES_OLD_NAME: Type = Type::Numbered(101);
+
+pub(crate) const CHANGED: Type = Type::Numbered(102);
 
 /// The number of types.
-pub(crate) const COUNT: usize = 82;
+pub(crate) const COUNT: usize = 103;
 
 /// The types, each at its number.
 pub(crate) fn types() -> [&'static Component; COUNT]
@@ -258,7 +300,32 @@ pub(crate) fn types() -> [&'static Component; COUNT]
     let [pfx, authenticated_safe, safe_contents] = pkcs12::types();
     let [ocsp_request, ocsp_response] = ocsp::types();
     let [snmp_message, snmp_v3_message, pdus, var_bind] = snmp::types();
-    let [ldap_message, filter, result_code] = ldap::types();
+    let [
+        ldap_message,
+        filter,
+        result_code,
+        matched_name,
+        diagnostic_message,
+        referral,
+        partial_attribute,
+        operation,
+        ldap_name,
+        scope,
+        dereferencing,
+        change,
+        ldap_identifier,
+        new_name,
+        new_superior,
+        mechanism,
+        selector,
+        authentication,
+        size_limit,
+        time_limit,
+        types_only,
+        ldap_assertion,
+        deletes_old_name,
+        changed,
+    ] = ldap::types();
     let [
         as_request,
         as_reply,
@@ -361,5 +428,26 @@ pub(crate) fn types() -> [&'static Component; COUNT]
         host_address,
         ticket_alone,
         result_code,
+        matched_name,
+        diagnostic_message,
+        referral,
+        partial_attribute,
+        operation,
+        ldap_name,
+        scope,
+        dereferencing,
+        change,
+        ldap_identifier,
+        new_name,
+        new_superior,
+        mechanism,
+        selector,
+        authentication,
+        size_limit,
+        time_limit,
+        types_only,
+        ldap_assertion,
+        deletes_old_name,
+        changed,
     ]
 }
