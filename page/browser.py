@@ -108,6 +108,14 @@ class Browser:
         self.run("page.tree.select(page.items.at(page.shown, arguments[0]))", offset)
         return self.details()
 
+    def seen(self, where):
+        """The text of an element as a person sees it: nothing of what is hidden or has no height."""
+        return self.run(
+            "const element = document.querySelector(arguments[0]);"
+            "return element.checkVisibility() && element.getBoundingClientRect().height > 0 ? element.innerText : ''",
+            where,
+        )
+
     def outcome(self):
         return self.run("return document.getElementById('outcome').textContent")
 

@@ -2,6 +2,13 @@
 // browser does for it: texts as octets of UTF-8, and addresses.
 import { ERRORS, FORMS } from "./module.js";
 
+/** The marks that texts begin with, by encoding. Without one UTF-16 may be DER: "00" is also two empty SEQUENCEs. */
+const MARKS = [
+  ["utf-16le", [0xff, 0xfe]],
+  ["utf-16be", [0xfe, 0xff]],
+  ["utf-8", [0xef, 0xbb, 0xbf]],
+];
+
 /** How many octets a dump may have that leaves out lines. */
 const GREATEST_DUMP = 1 << 24;
 
@@ -22,9 +29,8 @@ const SENTENCES = {
 
 /** The documents in the octets of a file. */
 export function documentsOfFile(reader, name, octets) {
-  if (octets[0] === 0xff && octets[1] === 0xfe) {
-    return documentsOfText(reader, new TextDecoder("utf-16le").decode(octets), name);
-  }
+  const marked = textOfMarked(octets);
+  if (marked !== null) return documentsOfText(reader, marked, name);
   const form = reader.formOf(octets);
   if (form === FORMS.octets) return [{ name, label: "", octets }];
   const kind = form === ERRORS.looksLike ? reader.kindOf(octets) : "";
@@ -34,6 +40,12 @@ export function documentsOfFile(reader, name, octets) {
   return documentsOfText(reader, new TextDecoder().decode(octets), name);
 }
 
+/** The text of octets that begin with the mark of an encoding, or null. */
+export function textOfMarked(octets) {
+  const found = MARKS.find(([, mark]) => mark.every((octet, k) => octets[k] === octet));
+  return found ? new TextDecoder(found[0]).decode(octets) : null;
+}
+
 /** The documents in a text. */
 export function documentsOfText(reader, text, name = "input") {
   const plain = withAllLines(withoutEscapes(text.replace(/^\ufeff/, "")));
@@ -41,7 +53,7 @@ export function documentsOfText(reader, text, name = "input") {
 }
 
 /** A text of a web address or of a header line: with %0A for a line feed. */
-function withoutEscapes(text) {
+export function withoutEscapes(text) {
   if (!/%[0-9a-f]{2}/i.test(text) || /\s/.test(text.trim())) return text;
   try {
     return decodeURIComponent(text);
@@ -51,20 +63,21 @@ function withoutEscapes(text) {
 }
 
 /** A dump with the lines that it leaves out, where it has a line *. They are as the one before. */
-function withAllLines(text) {
+export function withAllLines(text) {
   if (!/^\*\s*$/m.test(text)) return text;
   const lines = text.split(/\r?\n/).filter((line) => line.trim() !== "");
   const found = [16, 8, 10].map((base) => allLines(lines, base)).find((all) => all !== null);
   return found ? found.join("\n") : text;
 }
 
-/** All lines of a dump of 16 octets a line, if its offsets are right in this base. */
+/** All lines of a dump of 16 octets a line, if its offsets are right in this base. The last line may have an offset alone. */
 function allLines(lines, base) {
   const all = [];
   let isRepeated = false;
   for (const line of lines) {
     if (line.trim() === "*") {
-      isRepeated = all.length > 0;
+      if (all.length === 0) return null;
+      isRepeated = true;
       continue;
     }
     const [, digits, octets] = /^\s*([0-9a-f]+)\b(.*)$/i.exec(line) ?? ["", "", ""];
@@ -72,7 +85,7 @@ function allLines(lines, base) {
     if (isRepeated && !(offset <= GREATEST_DUMP)) return null;
     while (isRepeated && 16 * all.length < offset) all.push(all[all.length - 1]);
     isRepeated = false;
-    if (octets.trim() !== "" && offset !== 16 * all.length) return null;
+    if (octets.trim() === "" ? line !== lines.at(-1) : offset !== 16 * all.length) return null;
     all.push(line);
   }
   return all;

@@ -5,6 +5,9 @@ export const HEADING = 0;
 export const ELEMENT = 1;
 export const REFUSAL = 2;
 
+/** How many octets end a content of indefinite length (X.690 8.1.5). */
+const END_OCTETS = 2;
+
 /** The items of documents in preorder. An item is a number; arrays have what is known of each. */
 export class Items {
   constructor(documents) {
@@ -28,7 +31,8 @@ export class Items {
     /** The place among the items around the same one, from 1, and how many these are. */
     this.place = new Uint32Array(count);
     this.inside = new Uint32Array(count);
-    /** Where the octets of an element end. */
+    /** Where the content octets of an element end, and where it ends. */
+    this.contentEnd = new Float64Array(count);
     this.end = new Float64Array(count);
     this.isOpen = new Uint8Array(count).fill(1);
     documents.forEach((document, number) => this.add(document, number, hasHeadings ? 1 : 0));
@@ -77,23 +81,27 @@ export class Items {
       if (around >= 0 && this.after[around] === 0) this.after[around] = this.after[item];
     }
     for (let item = this.count - 1; item >= 0; item--) {
-      if (this.kind[item] === ELEMENT) this.end[item] = this.endOf(item);
+      if (this.kind[item] === ELEMENT) [this.contentEnd[item], this.end[item]] = this.endsOf(item);
     }
   }
 
-  endOf(item) {
+  /** Where the content octets of an element end, and where it ends. What is cut ends with the input. */
+  endsOf(item) {
     const { octets, outcome } = this.elementsOf(item);
     const row = this.rowOf(item);
     const begin = row.offset + row.header;
-    if (row.isDefinite) return Math.min(begin + row.length, octets.length);
-    // Two end-of-contents octets follow the last element, unless the walk ends before them.
+    const whole = octets.length;
+    if (row.isDefinite) {
+      const end = Math.min(begin + row.length, whole);
+      return [end, end];
+    }
     let last = begin;
     for (let k = item + 1; k < this.after[item]; k = this.after[k]) {
-      if (this.kind[k] === REFUSAL) return octets.length;
+      if (this.kind[k] === REFUSAL) return [whole, whole];
       last = this.end[k];
     }
     const isCut = outcome.isRefused && this.after[item] === this.documentEnd(item);
-    return isCut ? octets.length : Math.min(last + 2, octets.length);
+    return isCut ? [whole, whole] : [last, last + END_OCTETS];
   }
 
   documentEnd(item) {

@@ -49,11 +49,6 @@ export class Reader {
     }
   }
 
-  /** Whether the module has the call that writes DER. */
-  get writesDer() {
-    return "page_canonical" in this.calls;
-  }
-
   /** Gives up all that was read. */
   clear() {
     this.end = this.start;
@@ -161,6 +156,25 @@ export class Reader {
   }
 }
 
+/** The fields of the row at a place in memory. */
+export function rowIn(view, at) {
+  const sizeAt = (place) => Number(view.getBigUint64(at + place, true));
+  return {
+    offset: sizeAt(0),
+    header: sizeAt(8),
+    length: sizeAt(16),
+    depth: sizeAt(24),
+    index: sizeAt(32),
+    around: sizeAt(40),
+    number: view.getUint32(at + 48, true),
+    tagClass: view.getUint8(at + 52),
+    isConstructed: view.getUint8(at + 53) === 1,
+    isDefinite: view.getUint8(at + 54) === 1,
+    holds: ["", "DER", "BER"][view.getUint8(at + 55)],
+    isMarked: view.getUint8(at + 56) === 1,
+  };
+}
+
 /** The elements of an input, in preorder. */
 export class Elements {
   constructor(reader, octets) {
@@ -179,7 +193,7 @@ export class Elements {
 
   /** Lists the elements by these rules, to as many rows as there is room for. */
   list(rules, room) {
-    const { calls, outcome, view } = this.reader;
+    const { calls, outcome } = this.reader;
     const at = this.rows === 0 ? outcome : this.rows;
     calls.page_list(...this.input, rules, BigInt(at), BigInt(room), BigInt(outcome));
     const found = this.reader.view;
@@ -193,22 +207,7 @@ export class Elements {
 
   /** The fields of a row. */
   row(number) {
-    const at = this.rows + number * ROW;
-    const view = this.reader.view;
-    return {
-      offset: this.reader.size(at),
-      header: this.reader.size(at + 8),
-      length: this.reader.size(at + 16),
-      depth: this.reader.size(at + 24),
-      index: this.reader.size(at + 32),
-      around: this.reader.size(at + 40),
-      number: view.getUint32(at + 48, true),
-      tagClass: view.getUint8(at + 52),
-      isConstructed: view.getUint8(at + 53) === 1,
-      isDefinite: view.getUint8(at + 54) === 1,
-      holds: ["", "DER", "BER"][view.getUint8(at + 55)],
-      isMarked: view.getUint8(at + 56) === 1,
-    };
+    return rowIn(this.reader.view, this.rows + number * ROW);
   }
 
   depthOf(number) {
@@ -301,17 +300,9 @@ export class Elements {
     }
   }
 
-  /** The octets that the content of a row has, as far as they are there. */
-  contentOf(row, end) {
+  /** The content octets of a row whose length is definite, as far as they are there. */
+  contentOf(row) {
     const begin = row.offset + row.header;
-    return this.octets.subarray(begin, row.isDefinite ? begin + row.length : end);
-  }
-
-  /** The lines of `der tree`, and what it says of a refusal. */
-  treeText(full = false) {
-    const lines = [];
-    for (let k = 0; k < this.count; k++) lines.push(this.lineOf(k, full));
-    if (this.outcome.isRefused) lines.push(this.faultOf(BER));
-    return lines.join("\n") + (lines.length > 0 ? "\n" : "");
+    return this.octets.subarray(begin, begin + row.length);
   }
 }

@@ -2,9 +2,11 @@
 import { Details } from "./details.js";
 import { documentsOfFile, documentsOfText, FormError } from "./forms.js";
 import { ELEMENT, Items, REFUSAL } from "./items.js";
-import { BER, DER, Reader } from "./module.js";
+import { placesOf, rangeOf } from "./marks.js";
+import { Reader } from "./module.js";
 import { base64Of, counted, hexLinesOf, hexOf, linkTextOf, octetsOfBase64, pemOf } from "./octets.js";
-import { nameOf, Tree } from "./tree.js";
+import { nameOf, outcomeOf } from "./texts.js";
+import { Tree } from "./tree.js";
 import { View } from "./view.js";
 
 /** Links with more characters than this are refused by some programs that carry them. */
@@ -84,7 +86,7 @@ class Page {
     this.sayWords(elements);
   }
 
-  /** Has what a document is in words, for who opens it: a certificate, a list of revoked ones or a request. */
+  /** Shows the summary of a certificate, CRL or certification request. */
   sayWords(elements) {
     const words = elements?.wordsAt(Math.floor(Date.now() / 1000)) ?? "";
     byId("words").hidden = words === "";
@@ -93,22 +95,12 @@ class Page {
 
   select(item) {
     this.showDocument(this.items.document[item]);
-    const kind = this.items.kind[item];
-    const elements = this.items.elementsOf(item);
+    const isElement = this.items.kind[item] === ELEMENT;
     byId("copied").textContent = "";
-    if (kind === ELEMENT) {
-      const row = this.items.rowOf(item);
-      this.view.mark({ selected: this.octetsOf(item) });
-      this.view.reveal(row.offset);
-      this.details.show(elements, this.items.row[item], this.items.end[item]);
-    } else if (kind === REFUSAL) {
-      this.view.mark({ selected: null });
-      this.view.reveal(elements.outcome.place);
-      this.details.fill(refusalLines(elements));
-    } else {
-      this.view.mark({ selected: null });
-      this.details.fill(headingLines(this.items.documentOf(item)));
-    }
+    this.view.mark({ selected: isElement ? rangeOf(this.items, item) : null });
+    if (isElement) this.view.reveal(this.items.rowOf(item).offset);
+    if (this.items.kind[item] === REFUSAL) this.view.reveal(this.items.elementsOf(item).outcome.place);
+    this.details.show(this.items, item);
   }
 
   selectOctet(offset) {
@@ -120,49 +112,18 @@ class Page {
     if (item === this.tree.pointedAt) return;
     this.tree.point(item);
     const isHere = item >= 0 && this.items.kind[item] === ELEMENT && this.items.document[item] === this.shown;
-    this.view.mark({ pointed: isHere ? this.octetsOf(item) : null });
-  }
-
-  /** Where the header and the content of an element are. */
-  octetsOf(item) {
-    const row = this.items.rowOf(item);
-    return { begin: row.offset, content: row.offset + row.header, end: this.items.end[item] };
+    this.view.mark({ pointed: isHere ? rangeOf(this.items, item) : null });
   }
 
   /** Says what a document is. */
   sayOutcome(number) {
-    const { elements, error, octets } = this.documents[number];
-    const count = this.documents.length;
-    const several = count > 1 ? `${nameOf(this.documents[number])} (${number + 1} of ${count}): ` : "";
-    if (!elements) {
-      this.say("refused", several + error);
-      return;
-    }
-    const { type } = elements.fields;
-    const sizes = `${counted(elements.count, "element")} in ${counted(octets.length, "octet")}${type && `, of the type ${type}`}`;
-    if (elements.isDer) {
-      this.say("der", `${several}This is DER: ${sizes}.`);
-    } else if (elements.outcome.isRefused) {
-      this.say("refused", `${several}Refused ${elements.faultOf(BER)}. What comes before it is shown.`);
-      this.addButton("Show the place", () => this.goTo(elements.outcome.place, true));
-    } else {
-      this.sayNotDer(several, elements, sizes);
-    }
+    const { kind, text, place } = outcomeOf(this.documents, number);
+    this.say(kind, text);
+    if (place !== undefined) this.addButton(`Go to offset ${place}`, () => this.goTo(place, kind === "refused"));
+    if (kind === "ber") this.addButton("Show as DER", () => this.showCanonical(this.documents[number].elements));
   }
 
-  /** Says why an input isn't DER that was read to its end. The rules of BER are those of clause 8. */
-  sayNotDer(several, elements, sizes) {
-    const { derOutcome } = elements;
-    const why = derOutcome.isRefused ? elements.faultOf(DER) : "these aren't elements of DER";
-    const isRuleOfDer = /\(X\.690 1[01]/.test(why);
-    const byBer = isRuleOfDer ? "This is BER, not DER" : "This isn't DER";
-    const what = elements.isBer ? byBer : "This is neither DER nor BER";
-    this.say("ber", `${several}${what}: ${why}. Read by BER: ${sizes}.`);
-    if (derOutcome.isRefused) this.addButton("Show the place", () => this.goTo(derOutcome.place, false));
-    if (this.reader.writesDer) this.addButton("What DER it would be", () => this.showCanonical(elements));
-  }
-
-  /** Shows what DER has the same values. */
+  /** Shows the DER that has the same values. */
   showCanonical(elements) {
     const box = byId("canon");
     const found = elements.canonical();
@@ -170,7 +131,7 @@ class Page {
     box.replaceChildren(text);
     box.hidden = false;
     if (!found.octets) {
-      text.textContent = `No DER has these values: ${found.fault}.`;
+      text.textContent = `DER has no form of this: ${found.fault}.`;
       return;
     }
     text.textContent = `As DER it has ${counted(found.octets.length, "octet")}:`;
@@ -187,7 +148,7 @@ class Page {
     this.addButton("Close", () => (box.hidden = true), box);
   }
 
-  /** Goes to a place of the document that is shown. */
+  /** Goes to an offset of the document that is shown. */
   goTo(offset, isRefusal) {
     const item = isRefusal ? this.refusalItem() : this.items.at(this.shown, offset);
     if (item >= 0) this.tree.select(item);
@@ -236,8 +197,9 @@ class Page {
   }
 
   partOf(item, scope) {
-    const { begin, content, end } = this.octetsOf(item);
-    return { octets: this.items.elementsOf(item).octets.subarray(scope === "content" ? content : begin, end) };
+    const { begin, content, contentEnd, end } = rangeOf(this.items, item);
+    const { octets } = this.items.elementsOf(item);
+    return { octets: scope === "content" ? octets.subarray(content, contentEnd) : octets.subarray(begin, end) };
   }
 
   /** An address that has the input after its #, so that nothing is sent. */
@@ -283,26 +245,6 @@ class Page {
     if (location.hash !== "") location.hash = "";
     byId("text").focus();
   }
-}
-
-/** What is marked in the octets of a document whose walk ends early. */
-function placesOf(elements) {
-  if (elements.outcome.isRefused) return { refused: elements.outcome.place, unread: elements.outcome.place };
-  return elements.derOutcome?.isRefused ? { warned: elements.derOutcome.place } : {};
-}
-
-function refusalLines(elements) {
-  const path = elements.refusedPathOf(BER);
-  const lines = [["Refused", elements.causeOf(BER), "fault"], ["Place", `octet ${elements.outcome.place}`]];
-  if (path !== "") lines.push(["Path", path, "path"]);
-  return lines;
-}
-
-function headingLines({ name, label, octets, error }) {
-  const lines = [["Input", name]];
-  if (label) lines.push(["Label", label]);
-  lines.push(octets ? ["Size", counted(octets.length, "octet")] : ["Refused", error, "fault"]);
-  return lines;
 }
 
 function decodeLink(text) {

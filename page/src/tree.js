@@ -1,8 +1,6 @@
 // The tree of elements. The box has the focus, and names the row that is active (WAI-ARIA, tree view).
-import { BER } from "./module.js";
-import { ELEMENT, HEADING, REFUSAL } from "./items.js";
-import { counted } from "./octets.js";
 import { List } from "./list.js";
+import { labelOf, partsOf } from "./texts.js";
 
 export class Tree {
   /** `selected(item)` is called for an item that is selected, and `pointed(item)` for one under the mouse, or -1. */
@@ -126,7 +124,7 @@ export class Tree {
       row.removeAttribute("aria-expanded");
       twist.textContent = "";
     }
-    this.fill(row, this.partsOf(item));
+    this.fill(row, partsOf(items, item));
   }
 
   make(row) {
@@ -143,56 +141,14 @@ export class Tree {
     row.classList.add(parts.kind);
     place.textContent = parts.place ?? "";
     sizes.textContent = parts.sizes ?? "";
+    sizes.title = parts.sizesInWords ?? "";
     field.textContent = parts.field ?? "";
     type.textContent = parts.type;
     mark.textContent = parts.mark ?? "";
     fillValue(value, parts.value ?? "", parts.isIdentifier);
     remark.textContent = parts.remark ?? "";
-    const label = [parts.field, parts.type, parts.mark, parts.value, parts.remark, parts.at];
-    row.setAttribute("aria-label", label.filter(Boolean).join(", "));
+    row.setAttribute("aria-label", labelOf(parts));
   }
-
-  partsOf(item) {
-    const items = this.items;
-    const document = items.documentOf(item);
-    if (items.kind[item] === HEADING) return headingParts(document);
-    const elements = document.elements;
-    if (items.kind[item] === REFUSAL) {
-      return { kind: "refusal", place: elements.outcome.place, type: "Refused", value: elements.causeOf(BER) };
-    }
-    return elementParts(elements, items.row[item], items.hasInside(item));
-  }
-}
-
-function headingParts(document) {
-  const about = document.elements ? counted(document.octets.length, "octet") : document.error;
-  return {
-    kind: document.elements ? "heading" : "refusal",
-    type: nameOf(document),
-    value: about,
-  };
-}
-
-function elementParts(elements, number, hasInside) {
-  const row = elements.row(number);
-  const kind = row.tagClass !== 0 ? "tagged" : row.isConstructed ? "constructed" : "primitive";
-  return {
-    kind,
-    place: row.offset,
-    sizes: `${row.header}+${row.isDefinite ? row.length : "∞"}`,
-    field: elements.fieldOf(number),
-    type: elements.nameOf(number),
-    mark: row.holds ? `holds ${row.holds}` : row.isConstructed && !hasInside ? "empty" : "",
-    value: elements.valueOf(number, false).trim(),
-    isIdentifier: row.tagClass === 0 && row.number === 6,
-    remark: row.isMarked ? elements.remarkOf(number) : "",
-    at: `at ${row.offset}`,
-  };
-}
-
-/** The name and the label of a document. */
-export function nameOf({ name, label }) {
-  return label ? `${name}: ${label}` : name;
 }
 
 /** Shows a value; of an identifier its name first. */

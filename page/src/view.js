@@ -1,6 +1,7 @@
 // The octets of a document: offsets, hexadecimal digits and characters, in lines.
-import { characterOf } from "./octets.js";
 import { List } from "./list.js";
+import { marksAt } from "./marks.js";
+import { characterOf } from "./octets.js";
 
 const DIGITS = Array.from({ length: 256 }, (_, octet) => octet.toString(16).padStart(2, "0"));
 
@@ -84,7 +85,7 @@ export class View {
     for (let k = 0; k < this.width; k++) {
       const offset = begin + k;
       const octet = this.octets[offset];
-      const name = this.classAt(offset);
+      const name = marksAt(offset, this.octets.length, this.marks, this.cursor);
       fillCell(row.children[k + 1], offset, octet === undefined ? "" : DIGITS[octet], name);
       fillCell(row.children[this.width + k + 1], offset, octet === undefined ? "" : characterOf(octet), name);
     }
@@ -96,23 +97,6 @@ export class View {
     for (const [name, count] of [["b", 1], ["u", this.width], ["i", this.width]]) {
       for (let k = 0; k < count; k++) row.append(document.createElement(name));
     }
-  }
-
-  classAt(offset) {
-    const { selected, pointed, refused, warned, unread } = this.marks;
-    const names = [];
-    if (offset === refused) names.push("refused");
-    else if (offset === warned) names.push("warned");
-    else if (offset >= this.octets.length) return "";
-    else if (offset > unread) names.push("unread");
-    if (selected && offset >= selected.begin && offset < selected.end) {
-      names.push(offset < selected.content ? "header" : "content");
-    }
-    if (pointed && offset >= pointed.begin && offset < pointed.end) {
-      names.push(offset < pointed.content ? "pointed-header" : "pointed-content");
-    }
-    if (offset === this.cursor) names.push("cursor");
-    return names.join(" ");
   }
 }
 

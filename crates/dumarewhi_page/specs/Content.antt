@@ -1,5 +1,10 @@
+pub mod Errors
 pub mod Inputs
 pub mod Listed
+pub mod Paths
+pub mod Rooms
 pub mod Rows
 pub mod Rules
+pub mod Summaries
+pub mod Texts
 pub mod Written

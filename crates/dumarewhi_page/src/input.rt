@@ -61,7 +61,7 @@ pub extern "C" fn page_block<'a>(
     block: &mut PageBlock<'a>,
 ) -> u32
     ensures { (found : Found) × FindsBlock text.now found
-        × AnswersBlock found (length room.old) octets.new block.new result }
+        × AnswersBlock text.now found (length room.old) octets.new block.new result }
 {
     put_block(next_block(text), text, room, octets, block)
 }

@@ -1,12 +1,12 @@
 -- The form of an input and its octets, as the page sees them.
 use Rattle.std.specs.Borrow.{Bor}
-use Rattle.std.specs.Prelude.{◌≡◌, ℕ, List, Option, Some, None, Result, Ok, Err, IfErr, IfOk, MatchOption}
+use Rattle.std.specs.Prelude.{◌≡◌, ℕ, ◌⊎◌, List, [], Option, Some, None, Result, Ok, Err, IfErr, IfOk, MatchOption}
 use Rattle.der_input.specs.declared.error.FormError.{FormError}
 use Rattle.der_input.specs.declared.error.FormError.TheVariants as error
 use Rattle.der_input.specs.declared.form.Form.{Form}
 use Rattle.der_input.specs.declared.form.Form.TheVariants as form
 use Rattle.der_input.specs.declared.pem.Block.{Block}
-use Rattle.der_input.specs.Blocks.{BeginsWithBlock, BreaksBlock, label_of, lines_of}
+use Rattle.der_input.specs.Blocks.{BeginsWithBlock, BreaksBlock, HasLabel, HasNoLabel, label_of, lines_of}
 use Rattle.der_input.specs.Forms.{FindsForm, FindsNoForm, HasNoBlock}
 use Rattle.der_input.specs.Slices.{DecodesBase64, DecodesDigits, DecodesLines}
 use Rattle.dumarewhi_page.specs.declared.content.input.PageBlock.{PageBlock}
@@ -62,8 +62,13 @@ FindsBlock text found = IfOk found (λ x. MatchOption x (HasNoBlock text)
 abbrev pub WritesBlock : Block → ℕ → List ℕ → PageBlock → ℕ → Type 0
 WritesBlock b n w p k = (found : Result ℕ FormError) × DecodesLines (lines_of b) n w found × Answers found p.size k
 
-abbrev pub AnswersBlock : Found → ℕ → List ℕ → PageBlock → ℕ → Type 0
-AnswersBlock (Ok (Some b)) n octets p k =
+-- a broken block has no octets: its label, if it has one, and the text that follows
+abbrev pub SkipsBlock : List ℕ → PageBlock → Type 0
+SkipsBlock text p = (p.size ≡ 0)
+    × (HasLabel text p.label.now p.rest.now ⊎ (HasNoLabel text × (p.label.now ≡ []) × (p.rest.now ≡ [])))
+
+abbrev pub AnswersBlock : List ℕ → Found → ℕ → List ℕ → PageBlock → ℕ → Type 0
+AnswersBlock text (Ok (Some b)) n octets p k =
     (p.label.now ≡ label_of b.0) × (p.rest.now ≡ b.1.now) × WritesBlock b.0 n octets p k
-AnswersBlock (Ok None) n octets p k = k ≡ error_number error.NoBlock
-AnswersBlock (Err e) n octets p k = k ≡ error_number e
+AnswersBlock text (Ok None) n octets p k = k ≡ error_number error.NoBlock
+AnswersBlock text (Err e) n octets p k = (k ≡ error_number e) × SkipsBlock text p

@@ -7,6 +7,7 @@ use Rattle.der_base.specs.declared.header.Class.{Class}
 use Rattle.der_base.specs.declared.header.Class.TheVariants.{Universal, Application, ContextSpecific, Private}
 use Rattle.der_base.specs.declared.rules.Rules.{Rules}
 use Rattle.der_base.specs.declared.rules.Rules.TheVariants.{Ber, Der}
+use Rattle.der_elements.specs.declared.path.Step.{Step}
 use Rattle.der_elements.specs.Visits.{Visited}
 use Rattle.der_elements.specs.Walked.{index_in}
 use Rattle.dumarewhi_page.specs.declared.content.row.PageRow.{PageRow}
@@ -38,6 +39,10 @@ visited_in r = record {
   holds = holds_numbered r.holds;
   breaks_its_type = r.breaks_its_type == 1;
 }
+
+-- the last step of the path to it
+abbrev pub step_in : PageRow → Step
+step_in r = record { name = record { class = class_numbered r.tag_class; number = r.number }; index = r.index }
 
 -- The row of an element. It has this index among those of the same content. The element around it has the row of the
 -- number around, from 1, or there is none, and around is 0.

@@ -1,7 +1,7 @@
 //! The form of an input, and its octets.
 ghost use Rattle.std.specs.Prelude.{◌≡◌, length};
 ghost use Rattle.der_input.specs.Blocks.{label_of};
-ghost use Rattle.dumarewhi_page.specs.Content.Inputs.{Answers, AnswersBlock, NumbersForm, WritesBlock, error_number, form_number};
+ghost use Rattle.dumarewhi_page.specs.Content.Inputs.{Answers, AnswersBlock, NumbersForm, SkipsBlock, WritesBlock, error_number, form_number};
 
 use der_input::{Block, Form, FormError, first_label};
 
@@ -35,7 +35,7 @@ pub fn put_block<'a>(
     octets: &mut [u8],
     block: &mut PageBlock<'a>,
 ) -> u32
-    ensures { AnswersBlock found.entry (length room.old) octets.new block.new result }
+    ensures { AnswersBlock text.now found.entry (length room.old) octets.new block.new result }
 {
     match found {
         Ok(Some((found, rest))) => {
@@ -66,12 +66,14 @@ fn write_block<'a>(
 }
 
 /// Writes the label of a broken block, and the text after its start.
-fn write_broken<'a>(text: &'a [u8], block: &mut PageBlock<'a>) {
+fn write_broken<'a>(text: &'a [u8], block: &mut PageBlock<'a>)
+    ensures { SkipsBlock text.now block.new }
+{
     block.size = 0;
     match first_label(text) {
-        Some((label, rest)) => {
+        Some((label, after)) => {
             block.label = label;
-            block.rest = rest;
+            block.rest = after;
         }
         None => {
             block.label = &[];

@@ -1,4 +1,8 @@
 //! Paths to rows.
+ghost use Rattle.std.specs.Fmt.{DisplaysOnOk};
+ghost use Rattle.std.specs.Prelude.{Some};
+ghost use Rattle.dumarewhi_page.specs.Content.Paths.{path_to};
+
 use crate::content::row::PageRow;
 use der_elements::MAX_DEPTH;
 use std::fmt;
@@ -11,33 +15,34 @@ pub struct RowPath<'a> {
     pub number: usize,
 }
 
-impl RowPath<'_> {
-    /// The row at this depth on the path.
-    fn row_at(&self, depth: usize) -> Option<&PageRow> {
-        let mut row = self.rows.get(self.number)?;
-        for _ in 0..=MAX_DEPTH {
-            if row.depth <= depth {
-                return Some(row);
-            }
-            row = self.rows.get(row.around.checked_sub(1)?)?;
-        }
-        None
+impl fmt::Display for RowPath<'_> {
+    ghost use Rattle.std.specs.Prelude.{Some};
+    ghost use Rattle.dumarewhi_page.specs.Content.Paths.{path_to};
+
+    ghost output = { λ x. Some (path_to 100 x.rows.now x.number) };
+
+    fn fmt<W: fmt::Write>(&self, f: &mut fmt::Formatter<W>) -> fmt::Result {
+        write_path(f, self.rows, self.number, MAX_DEPTH)
     }
 }
 
-impl fmt::Display for RowPath<'_> {
-    fn fmt<W: fmt::Write>(&self, f: &mut fmt::Formatter<W>) -> fmt::Result {
-        let Some(last) = self.rows.get(self.number) else {
-            return Ok(());
-        };
-        for depth in 0..=last.depth.min(MAX_DEPTH) {
-            if depth > 0 {
-                f.write_str(".")?;
-            }
-            if let Some(row) = self.row_at(depth) {
-                write!(f, "{}", row.step())?;
-            }
-        }
-        Ok(())
+/// Writes the path to a row, with at most so many steps before its own.
+#[tactic(auto, unfolding(crate::specs::Content::Paths::path_to))]
+fn write_path<W: fmt::Write>(
+    f: &mut fmt::Formatter<W>,
+    rows: &[PageRow],
+    number: usize,
+    most: usize,
+) -> fmt::Result
+    ensures { DisplaysOnOk W.Write.write_str_gives f.old result (Some (path_to most rows.now number)) f.new }
+{
+    let Some(row) = rows.get(number) else {
+        return Ok(());
+    };
+    let step = row.step();
+    if row.around == 0 || most == 0 {
+        return write!(f, "{step}");
     }
+    write_path(f, rows, row.around - 1, most - 1)?;
+    write!(f, ".{step}")
 }

@@ -38,7 +38,7 @@ pub struct PageRow {
 
 impl PageRow {
     ghost use Rattle.der_elements.specs.Walked.{visited_of};
-    ghost use Rattle.dumarewhi_page.specs.Content.Rows.{row_of, visited_in};
+    ghost use Rattle.dumarewhi_page.specs.Content.Rows.{row_of, step_in, visited_in};
 
     /// The row of an element inside the element with the row `around`.
     pub(crate) fn new(element: &Element<'_>, around: usize) -> PageRow
@@ -98,7 +98,9 @@ impl PageRow {
     }
 
     /// The last step of the path.
-    pub(crate) fn step(&self) -> Step {
+    pub(crate) fn step(&self) -> Step
+        ensures { result ≡ step_in self.now }
+    {
         Step {
             name: self.name(),
             index: self.index,

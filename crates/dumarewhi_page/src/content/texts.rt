@@ -1,7 +1,7 @@
 //! Parts of errors, and how much of a value is printed.
 ghost use Rattle.std.specs.Prelude.{◌≡◌, ◌==◌, if◌then◌else◌};
 ghost use Rattle.der_print.specs.declared.style.Limit.{Limit};
-ghost use Rattle.dumarewhi_page.specs.declared.content.texts.Part.{Part};
+ghost use Rattle.dumarewhi_page.specs.Content.Errors.{PutsPart, part_numbered};
 
 use crate::content::fault::Fault;
 use crate::content::room::put;
@@ -28,7 +28,7 @@ pub fn limit_numbered(full: u32) -> Limit
 
 /// The part of an error with this number.
 pub fn part_numbered(number: u32) -> Part
-    ensures { result ≡ (if number == 0 then Part.Whole else (if number == 1 then Part.Cause else Part.Path)) }
+    ensures { result ≡ part_numbered number }
 {
     match number {
         0 => Part::Whole,
@@ -38,7 +38,9 @@ pub fn part_numbered(number: u32) -> Part
 }
 
 /// Writes a part of an error. Returns the length of the text.
-pub fn put_refusal(walk: &Walk<'_>, refusal: Refusal, part: Part, text: &mut [u8]) -> usize {
+pub fn put_refusal(walk: &Walk<'_>, refusal: Refusal, part: Part, text: &mut [u8]) -> usize
+    ensures { PutsPart part walk.now refusal text.old text.new result }
+{
     let path = &walk.path(&refusal);
     let reason = walk.reason(&refusal);
     match part {

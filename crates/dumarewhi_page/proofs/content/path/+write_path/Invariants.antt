@@ -1,0 +1,4 @@
+use Rattle.dumarewhi_page.proofs.content.path.+write_path.Given as goal
+
+abbrev pub decreases-write_path : goal.decreases-write_path
+decreases-write_path g l = l.most
