@@ -2,13 +2,14 @@
 from __future__ import annotations
 
 import datetime
+import ipaddress
 import pickle
 import random
 import struct
 import subprocess
 from itertools import islice
 from pathlib import Path
-from typing import Callable, Dict, Iterator, List, Sequence, Tuple
+from typing import Callable, Dict, Iterator, List, Optional, Sequence, Tuple
 
 import pytest
 from conftest import DATA, REPOSITORY, TESTS, certificates, change, inputs_of, is_text_of, octets_of, openssl, rows
@@ -370,12 +371,40 @@ def test_names() -> None:
     assert general("30 05 82 03 61 2e 62") == (GeneralName(GeneralNameKind.DNS_NAME, "a.b"),)
     (four,) = general("30 06 87 04 c0 00 02 01")
     assert str(four.value) == "192.0.2.1"
+    (six,) = general("30 12 87 10 20 01 0d b8 00*11 01")
+    assert isinstance(six.value, ipaddress.IPv6Address) and str(six.value) == "2001:db8::1"
+    (five,) = general("30 07 87 05 c0 00 02 01 00")
+    assert five.value == b"\xc0\0\2\1\0"
     (identifier,) = general("30 04 88 02 2a 03")
     assert identifier.value == ObjectIdentifier("1.2.3")
     (directory,) = general("30 0f a4 0d 30 0b 31 09 30 07 06 03 55 04 03 0c 00")
     assert isinstance(directory.value, Name) and str(directory.value) == "CN="
     (other,) = general("30 0a a0 08 06 02 2a 03 a0 02 05 00")
     assert (other.identifier, other.value) == (ObjectIdentifier("1.2.3"), b"")
+
+
+@pytest.mark.parametrize(
+    "value, text",
+    [
+        ("0c 02 c3 a9", "é"),
+        ("0c 01 c3", None),
+        ("12 01 61", None),
+        ("13 01 40", None),
+        ("16 01 40", "@"),
+        ("16 01 80", None),
+        ("1e 04 00 e9 20 ac", "é€"),
+        ("1e 01 61", None),
+        ("1c 04 00 01 f6 00", "\U0001f600"),
+        ("1a 01 7f", None),
+        ("2c 03 0c 01 61", None),
+        ("8c 01 61", None),
+    ],
+)
+def test_texts_of_attributes(value: str, text: Optional[str]) -> None:
+    """Only a primitive string of characters of its type has a text."""
+    octets = octets_of(value)
+    attribute = b"\x30" + bytes([5 + len(octets)]) + b"\x06\x03\x55\x04\x03" + octets
+    assert Name(b"\x31" + bytes([len(attribute)]) + attribute).get("2.5.4.3") == text
 
 
 RULES = [

@@ -512,6 +512,50 @@ fn octets(hex: &str) -> Vec<u8> {
         .collect()
 }
 
+/// An element of up to 65535 octets (X.690 8.1.3).
+fn element(identifier: u8, content: &[u8]) -> Vec<u8> {
+    let [high, low] = (content.len() as u16).to_be_bytes();
+    let length: &[u8] = match (high, low) {
+        (0, 0..=127) => &[low],
+        (0, _) => &[0x81, low],
+        _ => &[0x82, high, low],
+    };
+    [&[identifier], length, content].concat()
+}
+
+/// Only a primitive string of a type that has a `&str`, with octets of its character set, has one.
+#[test]
+fn strings_of_attributes() {
+    let values: [(&[u8], Option<&str>); 14] = [
+        (b"\x0c\x02\xc3\xa9", Some("\u{e9}")),
+        (b"\x0c\x01\xc3", None),
+        (b"\x0c\x00", Some("")),
+        (b"\x12\x03 12", Some(" 12")),
+        (b"\x12\x01a", None),
+        (b"\x13\x03a b", Some("a b")),
+        (b"\x13\x01@", None),
+        (b"\x16\x01@", Some("@")),
+        (b"\x16\x01\x80", None),
+        (b"\x2c\x03\x0c\x01a", None),
+        (b"\x33\x03\x13\x01a", None),
+        (b"\x8c\x01a", None),
+        (b"\x4c\x01a", None),
+        (b"\x1e\x02\0a", None),
+    ];
+    for (value, expected) in values {
+        let attribute = element(0x30, &[b"\x06\x03\x55\x04\x03", value].concat());
+        let name = element(0x30, &element(0x31, &attribute));
+        let names = element(0x30, &element(0xa4, &name));
+        let names: Vec<_> = GeneralNames::from_der(&names).unwrap().iter().collect();
+        match names[..] {
+            [GeneralName::DirectoryName(name)] => {
+                assert_eq!(name.find(COMMON_NAME).unwrap().as_str(), expected, "{value:02x?}")
+            }
+            _ => panic!("{value:02x?}"),
+        }
+    }
+}
+
 /// The names of the library's tests, in the order of the numbers.
 const RULES: [&str; 12] = [
     "SameAlgorithms",
