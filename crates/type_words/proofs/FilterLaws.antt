@@ -1,7 +1,6 @@
 -- The filter that octets begin with.
-use Rattle.std.proofs.Common.{◌≢◌, ℕ, List, Ok, Err, inl, subst, sym}
+use Rattle.std.proofs.Common.{ℕ, List, Ok, inl, subst}
 use Rattle.std.specs.Global.{Vec}
-use Rattle.der_base.specs.declared.error.Err.TheVariants.{OutOfMemory}
 use Rattle.der_base.specs.declared.error.Error.{Error as BerError}
 use Rattle.der_base.specs.declared.rules.Rules.TheVariants.{Ber}
 use Rattle.der_cursor.specs.declared.cursor.Cursor.{Cursor}
@@ -9,8 +8,8 @@ use Rattle.der_cursor.specs.declared.refusal.Refusal.{Refusal}
 use Rattle.der_cursor.specs.Cursors.{StartsAt, octets_left, rules_of}
 use Rattle.der_cursor.specs.Formats.{NoMemory, ReadsField}
 use Rattle.messages.specs.declared.ldap.filter.FilterPart.{FilterPart}
-use Rattle.messages.specs.Ldap.Filters.{FilterField, Part, filter_of}
-use Rattle.type_words.specs.Filters.{BeginsWithFilter, IsFilter}
+use Rattle.messages.specs.Ldap.Filters.{FilterField, filter_of}
+use Rattle.type_words.specs.Filters.{IsFilter}
 
 -- a filter was read at the start of octets
 pub filter_read : {w : List ℕ} {c d : Cursor} {x : Vec FilterPart} → StartsAt Ber w c
@@ -20,11 +19,3 @@ filter_read {w} {c} {d} {x} s h =
     let v = filter_of x.items in
     let read = subst (λ i. FilterField 32 (rules_of c) i v (octets_left d)) s.0 (h s.4).found.0 in
     inl (octets_left d, subst (λ r. FilterField 32 r w v (octets_left d)) s.3 read)
-
--- none was
-pub no_filter : {w : List ℕ} {c d : Cursor} {e : Refusal BerError} → StartsAt Ber w c
-    → ReadsField (FilterField 32) (λ (y : Vec FilterPart). filter_of y.items) NoMemory c (Err e) d → e.reason ≢ OutOfMemory
-    → (v : List Part) → ¬ BeginsWithFilter w v
-no_filter {w} {c} s h memory v b =
-    let read = subst (λ i. FilterField 32 Ber i v b.0) (sym s.0) b.1 in
-    memory ((h s.4).only v b.0 (subst (λ r. FilterField 32 r (octets_left c) v b.0) (sym s.3) read))

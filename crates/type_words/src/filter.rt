@@ -16,8 +16,8 @@ use messages::ldap::{Connective, FilterPart, Piece, Place, Relation, read_search
 use std::alloc::{AllocError, Global};
 use std::fmt;
 
-/// Writes the text of the filter that octets begin with by BER, or nothing if they begin with none. An error too if there
-/// is no memory.
+/// Writes the text of the filter that octets begin with by BER, or nothing if they begin with none. An error too if
+/// there is no memory.
 pub(crate) fn write_filter<W: fmt::Write>(
     f: &mut fmt::Formatter<W>,
     alloc: Global,

@@ -4,7 +4,8 @@ ghost use Rattle.der_elements.specs.Walked.{visited_of};
 ghost use Rattle.der_schema.specs.Meaning.{words_in};
 ghost use Rattle.der_schema.specs.Steps.{label_in, label_of};
 ghost use Rattle.type_words.specs.Items.{after, first_place, has_line, heads, here, inside, is_explicit};
-ghost use Rattle.type_words.specs.Items.{is_handed_in, is_of_content, item_of, kind_of, named, next_indent, notation_by};
+ghost use Rattle.type_words.specs.Items.{is_handed_in, is_of_content, item_of, kind_of, named, next_indent};
+ghost use Rattle.type_words.specs.Items.{notation_by};
 ghost use Rattle.type_words.specs.Items.{place_or, places_past, plain_place, read_by, step, step_by, worded};
 ghost use Rattle.type_words.specs.Places.{place_of, places_in, said_of, step_of};
 
