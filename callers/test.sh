@@ -45,6 +45,8 @@ has() { command -v "$1" > /dev/null && return 0; echo "left out: $2 (there is no
 
 root=$(cd .. && pwd)
 
+says "the declarations are what callers/make makes" ./make --check
+
 octets() { printf "%b" "$(echo "$1" | tr -d ' \n' | sed 's/../\\x&/g')"; }
 
 if [ -n "${DUMAREWHI_LIB:-}" ]; then
@@ -173,17 +175,19 @@ run_reply() { "$1" < c/examples/request.snmp > "$room/reply" && cmp "$room/reply
 
 run_c() {
     for name in first tree certificate snmp count layout rows errors tables csr snmp_reply writer trees agreement \
-        certificate_rows openssl_fields openssl_extensions fields private_key pem; do
+        certificate_rows openssl_fields openssl_extensions fields private_key pem found keys; do
         says "$name.c compiles" compile $name $name
     done
     says "the header is C99 and C++11" run_header
     says "stack.c compiles" compile stack stack -pthread
     shown=yes
-    for name in layout rows errors stack fields; do says "$name" "$room/$name"; done
+    for name in rows errors stack fields found; do says "$name" "$room/$name"; done
+    says "layout" "$room/layout" c/layout.rows
+    says "keys" "$room/keys" c/keys.rows
     says "writer" "$room/writer" "$room"
     says "rows of the library's tests" "$room/tables" ../tests/rows*/data/*/*.rows
     says "rows about certificates" "$room/certificate_rows" ../tests/rows/data/certificates/*.rows \
-        ../tests/rows/data/messages/messages.rows ../tests/rows/data/rules/names.rows \
+        ../tests/rows/data/messages/{messages,names}.rows ../tests/rows/data/rules/names.rows \
         ../tests/rows/data/rules/[!n]*.rows
     shown=
 
@@ -281,9 +285,10 @@ run_readme() (
         env -u DUMAREWHI_LIB sh -ec "$command"
 )
 
-# block LANGUAGE NUMBER: the lines of README's block with this number among those in this language.
+# block LANGUAGE NUMBER [FILE]: the lines of README's block with this number among those in this language.
 block() {
-    awk -v begin="\`\`\`$1" -v wanted="$2" '$0 == begin { on = ++seen == wanted; next } /^```$/ { on = 0 } on' ../README.md
+    awk -v begin="\`\`\`$1" -v wanted="$2" '$0 == begin { on = ++seen == wanted; next } /^```$/ { on = 0 } on' \
+        "${3:-../README.md}"
 }
 
 # The lines of README for C, in a program that reads a certificate.
@@ -298,9 +303,31 @@ run_readme_block() {
     [ "$("$room/readme" < ../crates/der/data/certificate.der)" = "valid until 2027" ]
 }
 
+# Those of c/README.md, in at most ten lines, with a certificate in DER and in PEM
+run_readme_of_c() {
+    local der=../crates/der/data/certificate.der file
+    {
+        printf '#include "dumarewhi.h"\n#include <stdio.h>\n#include <time.h>\nstatic uint8_t file[65536];\n'
+        sed -n '/^static void print_text/,/^}/p' c/examples/certificate.c
+        printf 'int main(void) {\nsize_t length = fread(file, 1, sizeof file, stdin);\n'
+        block c 1 c/README.md
+        echo 'return 0; }'
+    } > "$room/short.c"
+    [ "$(block c 1 c/README.md | wc -l)" -le 10 ] || return
+    cc -std=c99 -Wall -Wextra -pedantic -Werror -Ic/include "$room/short.c" "$archive" -o "$room/short" || return
+    { echo "-----BEGIN CERTIFICATE-----"; base64 < "$der"; echo "-----END CERTIFICATE-----"; } > "$room/short.pem"
+    for file in "$der" "$room/short.pem"; do
+        "$room/short" < "$file" | sed 's/^valid now: [01]$/as the clock says/' > "$room/shown" || return
+        [ "$(cat "$room/shown")" = $'as the clock says\nexample.org' ] || return
+    done
+}
+
+# Digits behind a backslash in lower case.
+lowered() { sed 's/\\[0-9A-F][0-9A-F]/\L&/g'; }
+
 # What openssl says of a certificate in DER, as the examples in C and Rust print it.
 openssl_certificate() {
-    openssl x509 -inform DER -in "$1" -noout -issuer -dates -subject -nameopt RFC2253 -dateopt iso_8601 \
+    openssl x509 -inform DER -in "$1" -noout -issuer -dates -subject -nameopt RFC2253 -dateopt iso_8601 | lowered \
         | sed 's/^\(subject\|issuer\)=/\1: /; s/^notBefore=\(.*\) /not before: \1T/
             s/^notAfter=\(.*\) /not after: \1T/'
 }
@@ -330,7 +357,7 @@ make_hostile() (
 run_hostile_certificate() {
     "$@" "$room/hostile.der" > "$room/fields" && "$@" "$room/hostile.pem" | cmp - "$room/fields" || return
     diff <(openssl_certificate "$room/hostile.der") <(fields_of_certificate < "$room/fields") || return
-    grep -q '^subject: CN=a\\0Asubject: b\\E2\\80\\AEc$' "$room/fields" || return
+    grep -q '^subject: CN=a\\0asubject: b\\e2\\80\\aec$' "$room/fields" || return
     openssl x509 -inform DER -in "$room/hostile.der" -noout -text | grep -q 'Public-Key: (2048 bit)' || return
     grep -q '^key: 1.2.840.113549.1.1.1, 2048 bits$' "$room/fields" || return
     [ "$(grep -c 'DNS:' "$room/fields")" = 1 ] && ! LC_ALL=C grep -q '[^ -~]' "$room/fields"
@@ -351,17 +378,17 @@ prints_certificates() {
     says "$name refuses a certificate that is cut short" refuses 'cut short' "$@" ../crates/der/data/cut.der
 }
 
-# The fields that openssl_fields.c prints are those that openssl prints. Names with types that have no short name in RFC
-# 4514, and alternative names of other kinds than texts, are printed in other words, and aren't compared. Nor are
-# certificates with the value of an extension that isn't by DER, with which the program ends with status 3.
+# The fields that openssl_fields.c prints are those that openssl prints. Alternative names of other kinds than texts are
+# printed in other words, and aren't compared. Nor are certificates with the value of an extension that isn't by DER,
+# with which the program ends with status 3.
 run_openssl_fields() {
     local same=0 others=0 wrong=0 name status
     local words="-noout -serial -subject -issuer -dates -fingerprint -sha256 -nameopt RFC2253 -dateopt iso_8601"
     words="$words -ext basicConstraints,keyUsage,subjectKeyIdentifier,authorityKeyIdentifier,subjectAltName"
-    local unnamed="emailAddress=|serialNumber=|organizationIdentifier=|DirName:|othername:"
+    local unnamed="DirName:|othername:"
     for name in $(find /etc/ssl/certs /usr/share/ca-certificates -name '*.crt' 2> /dev/null | head -n "$1"); do
         openssl x509 -in "$name" -outform DER -out "$room/field.der" || continue
-        openssl x509 -inform DER -in "$room/field.der" $words > "$room/wanted" 2> /dev/null
+        openssl x509 -inform DER -in "$room/field.der" $words 2> /dev/null | lowered > "$room/wanted"
         "$room/openssl_fields" < "$room/field.der" > "$room/fields"
         status=$?
         if [ "$status" = 0 ] && cmp -s "$room/wanted" "$room/fields"; then
@@ -374,6 +401,33 @@ run_openssl_fields() {
         fi
     done
     echo "$same certificates with the fields that openssl prints, $wrong not, $others that aren't compared"
+    [ "$wrong" = 0 ] && [ "$same" -gt 0 ]
+}
+
+# A certificate of the machine's is valid from its first second to its last, and has the DNS names that openssl prints;
+# the same in PEM.
+run_found() {
+    local same=0 wrong=0 name said begin end
+    for name in $(find /etc/ssl/certs /usr/share/ca-certificates -name '*.crt' 2> /dev/null | head -n "$1") \
+        "$room/extensions.pem"; do
+        said=$(openssl x509 -in "$name" -noout -dates -ext subjectAltName -dateopt iso_8601 2> /dev/null) || continue
+        begin=$(date -u -d "$(echo "$said" | sed -n 's/notBefore=//p')" +%s)
+        end=$(date -u -d "$(echo "$said" | sed -n 's/notAfter=//p')" +%s)
+        {
+            echo 0110
+            echo "$said" | grep -o 'DNS:[^,]*' | sed 's/DNS://'
+        } > "$room/wanted"
+        openssl x509 -in "$name" -outform DER -out "$room/found.der" || return
+        if [ "$begin" -gt 0 ] && "$room/found" $((begin - 1)) "$begin" "$end" $((end + 1)) < "$name" > "$room/fields" \
+            && cmp -s "$room/wanted" "$room/fields" \
+            && "$room/found" $((begin - 1)) "$begin" "$end" $((end + 1)) < "$room/found.der" | cmp -s - "$room/fields"; then
+            same=$((same + 1))
+        else
+            wrong=$((wrong + 1))
+            echo "$name"
+        fi
+    done
+    echo "$same certificates that are valid as long as openssl says, $wrong not"
     [ "$wrong" = 0 ] && [ "$same" -gt 0 ]
 }
 
@@ -480,6 +534,7 @@ if has cc "all of C"; then
             shown=yes
             says "certificates" run_certificates 100
             says "fields of certificates" run_openssl_fields 100
+            says "times and names of certificates" run_found 100
             shown=
         fi
     else
@@ -523,12 +578,14 @@ int LLVMFuzzerTestOneInput(const uint8_t *input, size_t length) { return input =
         echo "left out: targets for libFuzzer (there is no clang with -fsanitize=fuzzer)"
     fi
     says "the lines of README for C" run_readme_block
+    says "the lines of callers/c/README" run_readme_of_c
     has openssl "the command of README for C" \
         && says "the command of README for C" run_readme_example cc
 fi
 
 # The numbers of errors in the header are those of the specification, where 0 is no error.
-numbers_of_header() { sed -n 's/^ *DM_ERROR_.* = \([0-9]*\).*/\1/p' c/include/dumarewhi.h; }
+# (dm_found_text alone has the text of DM_ERROR_PEM_INPUT)
+numbers_of_header() { sed -n '/PEM_INPUT/d; s/^ *DM_ERROR_.* = \([0-9]*\).*/\1/p' c/include/dumarewhi.h; }
 numbers_of_errors() { sed -n 's/^[a-z]*_number [^:]* = \([0-9]*\)$/\1/p' "$numbers" | grep -vx 0; }
 numbers=../crates/c_values/specs/ErrorNumbers.antt
 run_numbers() { [ -n "$(numbers_of_errors)" ] && diff <(numbers_of_header | sort) <(numbers_of_errors | sort -u); }
@@ -586,12 +643,14 @@ if [ -d rust ]; then
                     echo 'fn main() -> Result<(), Box<dyn std::error::Error>> {'
                     echo 'let octets = std::fs::read(std::env::args().nth(1).ok_or("no file")?)?;'
                     block rust 2
+                    echo 'show(&octets)?;'
                     echo 'Ok(()) }'
+                    block rust 3 rust/README.md
                 } > "$room/project/src/main.rs"
                 [ -n "$add" ] || return
-                cd "$room/project" && CARGO_NET_OFFLINE=true sh -ec "${add//DUMAREWHI/$root}" || return
-                run_cargo run --offline --quiet -- "$root/crates/der/data/certificate.der" \
-                    | grep -q '^CN=.* until 2027-02-22T23:15:41Z$'
+                cd "$room/project" && CARGO_NET_OFFLINE=true sh -ec "${add//DUMAREWHI/$root} --features pem" || return
+                run_cargo run --offline --quiet -- "$root/crates/der/data/certificate.der" > shown || return
+                grep -q '^CN=.* until 2027-02-22T23:15:41Z$' shown && grep -q '^DNS:example.org$' shown
             )
             says "a project of its own" run_project
         else

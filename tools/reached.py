@@ -14,7 +14,7 @@ import os
 import re
 
 # Raise it when a verdict may come out differently for another reason than its texts: a change of the tool, say.
-VERSION = 1
+VERSION = 2
 
 COMMENT = re.compile(r"(?m)^[ \t]*(?:--|//).*$")
 WORD = re.compile(r"[^\W\d][\w'-]*|◌[^\s,{}()]*|[^\s,{}()]*◌[^\s,{}()]*")
@@ -74,10 +74,10 @@ class Repository:
     """The texts of crates and of those below them, cut into units. A crate has a name, a folder, what it uses of the
     kit, and below()."""
 
-    def __init__(self, crates, functions_of, sum_of_kit):
+    def __init__(self, crates, functions_of):
         self.crates = {it.name: it for it in crates}
         self.visible = {it.name: {it.name, *(one.name for one in it.below())} for it in crates}
-        self.functions_of, self.sum_of_kit = functions_of, sum_of_kit
+        self.functions_of = functions_of
         self.places, self.named, self.methods = {}, collections.defaultdict(list), collections.defaultdict(list)
         self.of_type, self.functions, self.found = collections.defaultdict(list), {}, {}
         for it in crates:
@@ -253,7 +253,7 @@ class Repository:
             functions += [it for it in self.functions_with(crate, edit.file, old) if it not in functions]
         cycles = {it.cycle for _, it in functions if it.cycle}
         functions += [it for it in own.values() if it[1].cycle in cycles and it not in functions]
-        own_sum = VERSION, self.sum_of_kit(), edit.name, [it.split("::")[-1] for it in edit.named], edit.pairs
+        own_sum = VERSION, edit.name, [it.split("::")[-1] for it in edit.named], edit.pairs
         if not functions:
             return sum_of(own_sum, self.whole(crate))
         bodies, units, code = [], [], " ".join(new for _, new in edit.pairs)

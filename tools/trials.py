@@ -1,9 +1,11 @@
 """A copy of the repository in which `rt try` finds the crates of tests beside the others. Run as a program, it is
 `rt try` without its search for names that a check would refuse, which takes as long again."""
-import importlib.util
 import pathlib
 import shutil
 import sys
+
+sys.dont_write_bytecode = True
+import kit
 
 ROOT = pathlib.Path(__file__).resolve().parent.parent
 # The folders of crates: those that the gate proves, and tests.
@@ -82,15 +84,11 @@ def add_program(room, name, used):
 
 def main(words):
     """Does what `rt try` does with these words, by the kit's own module, but for the search for names."""
-    command = shutil.which("rt") or sys.exit("there is no command rt")
-    spec = importlib.util.spec_from_file_location("rtlib", pathlib.Path(command).resolve().parent / "rtlib.py")
-    kit = sys.modules["rtlib"] = importlib.util.module_from_spec(spec)
-    spec.loader.exec_module(kit)
+    rtlib = kit.load()
     # (the search is a check by this command, of which `rt try` wants nothing but what it says of names)
-    kit.RATTLE = "true"
-    return kit.main("try", *words)
+    rtlib.RATTLE = "true"
+    return rtlib.main("try", *words)
 
 
 if __name__ == "__main__":
-    sys.dont_write_bytecode = True
     sys.exit(main(sys.argv[1:]))

@@ -29,6 +29,33 @@ static int has_fault(const dm_fault *fault, uint32_t error, size_t offset) {
            && fault->field == DM_FIELD_NONE;
 }
 
+/* Texts of string types (X.690 8.23), by their tag numbers: "hi" as UTF8String, "a*" as PrintableString, "\xff" as
+ * UTF8String, and "hi" under [1]. */
+static void test_texts(void) {
+    static const uint8_t input[] = {0x0c, 0x02, 0x68, 0x69, 0x13, 0x02, 0x61, 0x2a};
+    static const uint8_t others[] = {0x0c, 0x01, 0xff, 0x81, 0x02, 0x68, 0x69};
+    dm_cursor fields = dm_cursor_over(input, sizeof input, DM_DER);
+    dm_octets text = {NULL, 0};
+    dm_fault f;
+    expect(dm_next_text(&fields, DM_IA5_STRING, &text, &f) == DM_ERROR && has_fault(&f, DM_ERROR_UNEXPECTED_TAG, 0)
+               && is_left(&fields, 0, 8),
+           "a text of another type");
+    expect(dm_next_text(&fields, DM_OCTET_STRING, &text, &f) == DM_ERROR && has_fault(&f, DM_ERROR_WRONG_TYPE, 0),
+           "a type that is no text");
+    expect(dm_next_text(&fields, DM_UTF8_STRING, &text, &f) == DM_OK && is_at(text, input, 2, 2)
+               && is_left(&fields, 4, 4),
+           "UTF8String");
+    expect(dm_next_text(&fields, DM_PRINTABLE_STRING, &text, &f) == DM_ERROR
+               && has_fault(&f, DM_ERROR_INVALID_CHARACTER, 4) && is_at(text, input, 2, 2) && is_left(&fields, 4, 4),
+           "a character that isn't printable");
+    fields = dm_cursor_over(others, sizeof others, DM_DER);
+    expect(dm_next_text(&fields, DM_UTF8_STRING, &text, &f) == DM_ERROR && has_fault(&f, DM_ERROR_INVALID_CHARACTER, 0),
+           "an octet that isn't UTF-8");
+    fields = dm_cursor_over(&others[3], 4, DM_BER);
+    dm_next_implicit(&fields, DM_CONTEXT_SPECIFIC, 1);
+    expect(dm_next_text(&fields, DM_IA5_STRING, &text, &f) == DM_OK && is_at(text, others, 5, 2), "an implicit tag");
+}
+
 /* A value of each type in a SEQUENCE, by DER. */
 static void test_types(void) {
     static const uint8_t input[] = {
@@ -71,13 +98,13 @@ static void test_types(void) {
                && dm_is_next(&fields, DM_PRIVATE, 1) == 0,
            "which is next");
     expect(dm_next_content(&fields, DM_CONTEXT_SPECIFIC, 1, 1, &inner, &f) == DM_OK && is_left(&inner, 71, 3), "[1]");
-    dm_expect_implicit(&inner, DM_CONTEXT_SPECIFIC, 0);
+    dm_next_implicit(&inner, DM_CONTEXT_SPECIFIC, 0);
     expect(dm_next_u64(&inner, &number, &f) == DM_OK && number == 9 && dm_end(&inner, &f) == DM_OK, "an implicit tag");
-    dm_expect_implicit(&fields, DM_CONTEXT_SPECIFIC, 3);
+    dm_next_implicit(&fields, DM_CONTEXT_SPECIFIC, 3);
     expect(dm_next_octets(&fields, &octets, &f) == DM_ERROR && has_fault(&f, DM_ERROR_UNEXPECTED_TAG, 74)
                && fields.implicit == 3 && fields.number == 3,
            "another one");
-    dm_expect_implicit(&fields, DM_CONTEXT_SPECIFIC, 2);
+    dm_next_implicit(&fields, DM_CONTEXT_SPECIFIC, 2);
     expect(dm_next_octets(&fields, &octets, &f) == DM_OK && is_at(octets, input, 76, 1) && fields.implicit == 0, "[2]");
     expect(dm_end(&fields, &f) == DM_ERROR && has_fault(&f, DM_ERROR_PARSER_FAULT, 77), "octets left over");
     expect(dm_next_any(&fields, &any, &f) == DM_OK && is_at(any.content, input, 80, 1) && any.number == 33
@@ -142,7 +169,7 @@ static void test_bits(void) {
         dm_cursor cursor = dm_cursor_over(rows[i].octets, rows[i].length, rows[i].rules);
         dm_bits bits = {{NULL, 0}, 99, 99};
         dm_fault f;
-        if (rows[i].octets[0] == 0x83) dm_expect_implicit(&cursor, DM_CONTEXT_SPECIFIC, 3);
+        if (rows[i].octets[0] == 0x83) dm_next_implicit(&cursor, DM_CONTEXT_SPECIFIC, 3);
         uint32_t implicit = cursor.implicit, status = dm_next_bits(&cursor, &bits, &f);
         if (rows[i].error == 0) {
             expect(status == DM_OK && bits.unused == rows[i].unused && bits.is_present == 1
@@ -179,7 +206,7 @@ static void test_number(const uint8_t *octets, size_t length, uint32_t rules, ui
             dm_fault f;
             if (tagged) {
                 element[0] = 0x83;
-                dm_expect_implicit(&cursor, DM_CONTEXT_SPECIFIC, 3);
+                dm_next_implicit(&cursor, DM_CONTEXT_SPECIFIC, 3);
             }
             uint32_t implicit = cursor.implicit;
             uint32_t status = call == 0   ? dm_next_integer(&cursor, &content, &f)
@@ -242,6 +269,7 @@ static void test_numbers(void) {
 }
 
 int main(void) {
+    test_texts();
     test_types();
     test_rules();
     test_bits();

@@ -305,8 +305,43 @@ static void test_value(dm_octets value) {
     }
 }
 
+/* One call finds the names of a subject that calls for each extension and each name find. */
+static void test_found(const dm_octets list) {
+    dm_octets left = list, names = {list.octets, 0}, wanted = {list.octets, 0}, text;
+    dm_extension next, first, found;
+    dm_general_name name;
+    dm_fault fault, of_value;
+    size_t count = 0, hosts = 0;
+    memset(&first, 0xaa, sizeof first);
+    memset(&found, 0xaa, sizeof found);
+    while (dm_next_extension(&left, &next)) {
+        if (next.kind == DM_SUBJECT_ALT_NAME && count++ == 0) first = next;
+    }
+    expect(dm_find_extension(&list, DM_SUBJECT_ALT_NAME, &found) == (count > 0), "whether there is an extension");
+    expect(memcmp(&found, &first, sizeof first) == 0, "the first extension of a kind");
+    uint32_t status = dm_read_subject_alt_names(&list, &names, &fault);
+    expect(status == fault.status, "the status of names");
+    if (count > 1) {
+        expect(fault.error == DM_ERROR_EXTENSION_REPEATED && names.length == 0, "names of two extensions");
+        return;
+    }
+    if (count == 1) {
+        dm_read_general_names(first.value.octets, first.value.length, &wanted, &of_value);
+        expect(memcmp(&fault, &of_value, sizeof fault) == 0, "the fault of names");
+    }
+    expect(count == 1 || status == DM_OK, "no names");
+    expect(names.length == wanted.length && (count == 0 || names.octets == wanted.octets), "names");
+    while (dm_next_general_name(&wanted, &name)) hosts += name.kind == DM_DNS_NAME;
+    while (dm_next_dns_name(&names, &text)) {
+        hosts--;
+        test_part(text, "a DNS name outside");
+    }
+    expect(hosts == 0, "DNS names");
+}
+
 static void test_extensions(dm_octets list) {
     dm_extension extension;
+    test_found(list);
     expect(dm_has_unknown_critical(list.octets, list.length) <= 1, "whether one isn't known");
     while (dm_next_extension(&list, &extension)) {
         extensions++;

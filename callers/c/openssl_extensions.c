@@ -49,7 +49,7 @@ static void print_notice(const dm_any *value) {
     dm_any text;
     dm_fault fault;
     printf("User Notice:\n");
-    while (fields.left.length > 0 && dm_next_any(&fields, &text, &fault) == DM_OK) {
+    while (!dm_is_empty(&fields) && dm_next_any(&fields, &text, &fault) == DM_OK) {
         if (text.number != DM_SEQUENCE) print_text("Explicit Text: ", text.content);
     }
 }

@@ -63,13 +63,6 @@ static int print_algorithm(dm_octets algorithm, const dm_any *parameters, uint32
     return 0;
 }
 
-static const uint8_t of_rsa[] = {0x2a, 0x86, 0x48, 0x86, 0xf7, 0x0d, 0x01, 0x01, 0x01};
-static const uint8_t of_curve[] = {0x2a, 0x86, 0x48, 0xce, 0x3d, 0x02, 0x01};
-
-static int is(dm_octets identifier, const uint8_t *octets, size_t length) {
-    return identifier.length == length && memcmp(identifier.octets, octets, length) == 0;
-}
-
 static int print_public(size_t length) {
     dm_public_key key;
     dm_rsa_public_key rsa;
@@ -77,7 +70,7 @@ static int print_public(size_t length) {
     if (dm_read_public_key(input, length, &key, &fault) != DM_OK) return print_fault(&fault);
     if (print_algorithm(key.algorithm, &key.parameters, key.has_parameters) != 0) return 2;
     dm_octets octets = key.public_key.octets;
-    if (!is(key.algorithm, of_rsa, sizeof of_rsa)) return print_octets(octets);
+    if (!dm_is_oid(key.algorithm, DM_OID_RSA_ENCRYPTION)) return print_octets(octets);
     if (dm_read_rsa_public_key(octets.octets, octets.length, &rsa, &fault) != DM_OK) return print_fault(&fault);
     print_number(rsa.modulus);
     print_number(rsa.public_exponent);
@@ -105,6 +98,6 @@ int main(int count, char **words) {
         return fwrite(key.private_key.octets, 1, key.private_key.length, stdout) != key.private_key.length;
     }
     if (print_algorithm(key.algorithm, &key.parameters, key.has_parameters) != 0) return 2;
-    if (is(key.algorithm, of_curve, sizeof of_curve)) return print_curve(key.private_key);
-    return is(key.algorithm, of_rsa, sizeof of_rsa) ? print_numbers(key.private_key) : 0;
+    if (dm_is_oid(key.algorithm, DM_OID_EC_PUBLIC_KEY)) return print_curve(key.private_key);
+    return dm_is_oid(key.algorithm, DM_OID_RSA_ENCRYPTION) ? print_numbers(key.private_key) : 0;
 }

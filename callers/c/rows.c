@@ -612,50 +612,6 @@ static void test_error_texts(void) {
     expect_text(66, "a number has no octets (X.690 8.3.1)");
 }
 
-/* Names, and their texts by RFC 4514. */
-static const struct {
-    const char *hex, *text;
-} names[] = {
-    /* 2.4: spaces and number signs */
-    {"31 0f 30 0d 06 03 55 04 03 0c 06 23 20 6c 65 61 64 31 0a 30 08 06 03 55 04 03 0c 01 23 31 0a 30 08 06 03 "
-     "55 04 03 0c 01 20 31 0e 30 0c 06 03 55 04 03 0c 05 20 20 78 20 20 31 09 30 07 06 03 55 04 03 0c 00",
-     "CN=,CN=\\  x \\ ,CN=\\ ,CN=\\#,CN=\\# lead"},
-    /* 2.4: other signs, and octets that are no printable ASCII */
-    {"31 17 30 15 06 03 55 04 03 0c 0e 61 3d 62 22 2b 2c 3b 3c 3e 5c 27 63 01 7f",
-     "CN=a=b\\\"\\+\\,\\;\\<\\>\\\\'c\\01\\7F"},
-    /* UTF8String, T61String, BMPString and UniversalString */
-    {"31 12 30 10 06 03 55 04 03 0c 09 e2 82 ac f0 9f 98 80 c3 a9 31 0d 30 0b 06 03 55 04 03 14 04 63 61 66 e9 "
-     "31 11 30 0f 06 03 55 04 03 1e 08 00 e9 20 ac 00 20 00 23 31 15 30 13 06 03 55 04 03 1c 0c 00 00 20 ac 00 "
-     "01 f6 00 00 00 00 20",
-     "CN=\\E2\\82\\AC\\F0\\9F\\98\\80\\ ,CN=\\C3\\A9\\E2\\82\\AC #,CN=caf\\C3\\A9,CN=\\E2\\82\\AC\\F0\\9F\\98\\"
-     "80\\C3\\A9"},
-    /* 3: the types that have a short name */
-    {"31 0a 30 08 06 03 55 04 06 13 01 78 31 0a 30 08 06 03 55 04 08 13 01 78 31 0a 30 08 06 03 55 04 07 13 01 "
-     "78 31 0a 30 08 06 03 55 04 09 13 01 78 31 0a 30 08 06 03 55 04 0a 13 01 78 31 0a 30 08 06 03 55 04 0b 13 "
-     "01 78 31 0a 30 08 06 03 55 04 03 13 01 78 31 11 30 0f 06 0a 09 92 26 89 93 f2 2c 64 01 01 13 01 78 31 11 "
-     "30 0f 06 0a 09 92 26 89 93 f2 2c 64 01 19 13 01 78",
-     "DC=x,UID=x,CN=x,OU=x,O=x,STREET=x,L=x,ST=x,C=x"},
-    /* 2.3: types without one, by their arcs and with the header of the value */
-    {"31 0d 30 0b 06 04 2a 03 04 05 0c 03 61 62 63 31 0c 30 0a 06 03 55 04 2d 03 03 00 ab cd 31 12 30 10 06 0b "
-     "88 37 ff ff ff ff ff ff ff ff 7f 13 01 78",
-     "2.999.9223372036854775807=#130178,2.5.4.45=#030300ABCD,1.2.3.4.5=#0C03616263"},
-    /* 2.4: values that are no strings */
-    {"31 0a 30 08 06 03 55 04 03 8c 01 78 31 0c 30 0a 06 03 55 04 03 2c 03 0c 01 78 31 0a 30 08 06 03 55 04 03 "
-     "1e 01 78",
-     "CN=#1E0178,CN=#2C030C0178,CN=#8C0178"},
-    /* 2.2: several attributes */
-    {"31 0a 30 08 06 03 55 04 0a 0c 01 4f 31 15 30 08 06 03 55 04 03 0c 01 61 30 09 06 03 55 04 06 13 02 46 52",
-     "CN=a+C=FR,O=O"},
-};
-
-static void test_names(void) {
-    for (size_t i = 0; i < sizeof names / sizeof *names; i++) {
-        uint8_t octets[512], text[512];
-        size_t length = octets_of(names[i].hex, octets), size = dm_name_text(octets, length, text, sizeof text);
-        expect(size == strlen(names[i].text) && memcmp(text, names[i].text, size) == 0, "dm_name_text", names[i].hex);
-    }
-}
-
 /* NULL is taken with length 0, as an empty std::vector has it. */
 static void test_none(void) {
     static const uint8_t digest_of_none[] = {0xe3, 0xb0, 0xc4, 0x42, 0x98, 0xfc, 0x1c, 0x14, 0x9a, 0xfb, 0xf4,
@@ -679,7 +635,7 @@ static void test_none(void) {
     expect(dm_error_text(0, NULL, 0) == 8, "error_text", "NULL");
     expect(dm_read_certificate(NULL, 0, &certificate, &fault) == DM_INCOMPLETE && fault.needed == 1, "certificate",
            "NULL");
-    expect(dm_name_text(NULL, 0, NULL, 0) == 0, "name_text", "NULL");
+    expect(dm_name_text(NULL, 0, NULL, 0) == 0 && dm_name_utf8(NULL, 0, NULL, 0) == 0, "name_text", "NULL");
     expect(dm_next_extension(&none, &extension) == 0 && dm_next_relative_name(&none, &item) == 0, "lists", "NULL");
     expect(dm_next_attribute(&none, &attribute) == 0 && dm_next_general_name(&none, &name) == 0, "lists", "NULL");
     dm_sha256(NULL, 0, &digest);
@@ -703,7 +659,6 @@ int main(void) {
     test_identifiers();
     test_texts();
     test_times();
-    test_names();
     test_error_texts();
     printf("rows: %d passed, %d failed\n", passed, failed);
     return failed != 0;

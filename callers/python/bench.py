@@ -32,18 +32,18 @@ def certificates() -> List[bytes]:
 def response() -> bytes:
     """Message ::= SEQUENCE { version INTEGER, community OCTET STRING, data [2] IMPLICIT PDU } (RFC 3416)"""
     w = Writer()
-    with w.sequence():
-        w.integer(1)
-        w.octet_string(b"public")
-        with w.tagged(2):
+    with w.open_sequence():
+        w.put_integer(1)
+        w.put_octets(b"public")
+        with w.open_tagged(2):
             for number in (1_902_661_969, 0, 0):
-                w.integer(number)
-            with w.sequence():
+                w.put_integer(number)
+            with w.open_sequence():
                 for interface in range(10):
-                    with w.sequence():
-                        w.oid(f"1.3.6.1.2.1.2.2.1.10.{interface}")
-                        w.integer(1_000_000 * interface)
-    return w.to_bytes()
+                    with w.open_sequence():
+                        w.put_oid(f"1.3.6.1.2.1.2.2.1.10.{interface}")
+                        w.put_integer(1_000_000 * interface)
+    return w.finish()
 
 
 def values(octets: bytes) -> object:
@@ -55,14 +55,14 @@ def nested(octets: bytes) -> object:
 
 
 def message(octets: bytes) -> object:
-    with Reader(octets) as reader, reader.sequence() as fields:
-        version, community = fields.integer(), fields.octet_string()
-        with fields.tagged(2) as pdu:
+    with Reader(octets) as reader, reader.open_sequence() as fields:
+        version, community = fields.integer(), fields.octets()
+        with fields.open_tagged(2) as pdu:
             numbers = pdu.integer(), pdu.integer(), pdu.integer()
-            with pdu.sequence() as variables:
+            with pdu.open_sequence() as variables:
                 pairs = []
-                while not variables.at_end:
-                    with variables.sequence() as pair:
+                while not variables.is_empty:
+                    with variables.open_sequence() as pair:
                         pairs.append((pair.oid(), pair.integer()))
     return version, community, numbers, pairs
 

@@ -43,40 +43,24 @@ static void print_moment(const char *title, const dm_moment *moment) {
     printf("%s: %04u-%02d-%02dT%02d:%02d:%02dZ\n", title, t->year, t->month, t->day, t->hour, t->minute, t->second);
 }
 
-/* The size of a key: the bits of an RSA modulus, or else the octets. */
 static void print_key(const dm_certificate *it) {
-    static const uint8_t rsa[] = {0x2a, 0x86, 0x48, 0x86, 0xf7, 0x0d, 0x01, 0x01, 0x01};
-    dm_octets algorithm = it->key_algorithm.identifier, key = it->key.octets;
-    dm_rsa_public_key numbers;
-    dm_fault fault;
-    print_identifier("key", algorithm);
-    if (algorithm.length == sizeof rsa && memcmp(algorithm.octets, rsa, sizeof rsa) == 0
-        && dm_read_rsa_public_key(key.octets, key.length, &numbers, &fault) == DM_OK) {
-        dm_octets modulus = numbers.modulus;
-        while (modulus.length > 0 && modulus.octets[0] == 0) modulus.octets++, modulus.length--;
-        size_t bits = 8 * modulus.length;
-        for (int top = 0x80; bits > 0 && (modulus.octets[0] & top) == 0; top >>= 1) bits--;
-        printf(", %zu bits\n", bits);
-    } else {
-        printf(", %zu octets\n", key.length);
-    }
+    dm_key_kind kind;
+    dm_key_type(&it->key_algorithm, &it->key, &kind);
+    print_identifier("key", it->key_algorithm.identifier);
+    if (kind.curve != DM_CURVE_OTHER) printf(", %s", dm_curve_string(kind.curve));
+    if (kind.bits != 0) printf(", %u bits", (unsigned)kind.bits);
+    printf("\n");
 }
 
 /* The DNS names in subjectAltName (RFC 5280 4.2.1.6). */
 static void print_hosts(dm_octets extensions) {
-    dm_extension extension;
-    dm_octets names;
-    dm_general_name name;
+    dm_octets names, name;
     dm_fault fault;
-    while (dm_next_extension(&extensions, &extension)) {
-        if (extension.kind != DM_SUBJECT_ALT_NAME) continue;
-        if (dm_read_general_names(extension.value.octets, extension.value.length, &names, &fault) != DM_OK) continue;
-        while (dm_next_general_name(&names, &name)) {
-            if (name.kind != DM_DNS_NAME) continue;
-            printf("DNS: ");
-            print_text(name.octets);
-            printf("\n");
-        }
+    if (dm_read_subject_alt_names(&extensions, &names, &fault) != DM_OK) return;
+    while (dm_next_dns_name(&names, &name)) {
+        printf("DNS: ");
+        print_text(name);
+        printf("\n");
     }
 }
 

@@ -51,7 +51,7 @@ static uint32_t print_request(dm_cursor *pdu, const char *kind, dm_fault *fault)
         return fault->status;
     }
     printf(": %s %lld", kind, (long long)id);
-    while (bindings.left.length > 0) {
+    while (!dm_is_empty(&bindings)) {
         if (print_name(&bindings, fault) != DM_OK) return fault->status;
     }
     return DM_OK;

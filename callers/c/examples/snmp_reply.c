@@ -38,7 +38,7 @@ static void put_binding(dm_writer *w, dm_octets name) {
 /* The names of a SEQUENCE OF VarBind, each with its answer. */
 static uint32_t put_bindings(dm_writer *w, dm_cursor *bindings, dm_fault *fault) {
     dm_mark list = dm_open_sequence(w);
-    while (bindings->left.length > 0) {
+    while (!dm_is_empty(bindings)) {
         dm_cursor binding;
         dm_octets name;
         dm_any value;

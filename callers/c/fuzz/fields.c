@@ -43,7 +43,7 @@ int LLVMFuzzerTestOneInput(const uint8_t *input, size_t length) {
     for (size_t i = 0; i < calls; i++) {
         dm_cursor before = cursor, inner = cursor;
         dm_fault fault;
-        if (input[i] >= 224) dm_expect_implicit(&cursor, DM_CONTEXT_SPECIFIC, input[i] & 7);
+        if (input[i] >= 224) dm_next_implicit(&cursor, DM_CONTEXT_SPECIFIC, input[i] & 7);
         dm_cursor at = cursor;
         uint32_t status = next(&cursor, &inner, input[i], &fault);
         expect_fault(&fault, status, length - calls);

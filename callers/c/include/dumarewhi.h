@@ -1,3 +1,5 @@
+/* Made by callers/make of the repository. */
+
 /* Reads BER and DER (ITU-T X.690) and certificates (RFC 5280), and writes DER. The repository's docs/GUARANTEES.md has
  * what is proved.
  *
@@ -51,7 +53,13 @@ typedef struct dm_element {
     uint8_t reserved;    /* 0 */
 } dm_element;
 
-enum dm_class { DM_UNIVERSAL = 0, DM_APPLICATION = 1, DM_CONTEXT_SPECIFIC = 2, DM_PRIVATE = 3 };
+/* The class of a tag (X.690 8.1.2.2). */
+enum dm_class {
+    DM_UNIVERSAL = 0,        /* the types of X.680 */
+    DM_APPLICATION = 1,      /* tags that mean one thing throughout an application */
+    DM_CONTEXT_SPECIFIC = 2, /* tags that mean one thing in the type around them */
+    DM_PRIVATE = 3           /* tags of an enterprise */
+};
 
 /* The result of a call. */
 enum dm_status {
@@ -126,101 +134,106 @@ uint32_t dm_write_der(const uint8_t *input, size_t length, uint8_t *out, size_t 
 
 /* The numbers of errors; 0 is none. Calls of this header don't return all of them. */
 enum dm_error {
-    DM_ERROR_WRONG_TYPE = 1,
-    DM_ERROR_WRONG_VALUE = 2,
-    DM_ERROR_MAX_DEPTH = 3,
-    DM_ERROR_INVALID_LENGTH = 4,
-    DM_ERROR_INVALID_TAG = 5,
-    DM_ERROR_UNKNOWN_TAG = 6,
-    DM_ERROR_UNEXPECTED_TAG = 7,
-    DM_ERROR_UNEXPECTED_CLASS = 8,
-    DM_ERROR_CONSTRUCTED_EXPECTED = 9,
-    DM_ERROR_PRIMITIVE_EXPECTED = 10,
-    DM_ERROR_INTEGER_TOO_LARGE = 11,
-    DM_ERROR_INTEGER_NEGATIVE = 12,
-    DM_ERROR_INVALID_VALUE = 13,
-    DM_ERROR_INVALID_CHARACTER = 14,
-    DM_ERROR_INVALID_TIME = 15,
-    DM_ERROR_UNSUPPORTED = 16,
-    DM_ERROR_OVERRUN = 17, /* an element runs past the end of the one around it: more octets don't help */
-    DM_ERROR_PARSER_FAULT = 18,
+    DM_ERROR_WRONG_TYPE = 1,                    /* wrong type */
+    DM_ERROR_WRONG_VALUE = 2,                   /* wrong value */
+    DM_ERROR_MAX_DEPTH = 3,                     /* maximum depth reached */
+    DM_ERROR_INVALID_LENGTH = 4,                /* invalid length */
+    DM_ERROR_INVALID_TAG = 5,                   /* invalid tag */
+    DM_ERROR_UNKNOWN_TAG = 6,                   /* unknown tag */
+    DM_ERROR_UNEXPECTED_TAG = 7,                /* unexpected tag */
+    DM_ERROR_UNEXPECTED_CLASS = 8,              /* unexpected class */
+    DM_ERROR_CONSTRUCTED_EXPECTED = 9,          /* constructed encoding expected */
+    DM_ERROR_PRIMITIVE_EXPECTED = 10,           /* primitive encoding expected */
+    DM_ERROR_INTEGER_TOO_LARGE = 11,            /* integer too large */
+    DM_ERROR_INTEGER_NEGATIVE = 12,             /* integer negative */
+    DM_ERROR_INVALID_VALUE = 13,                /* invalid value */
+    DM_ERROR_INVALID_CHARACTER = 14,            /* invalid character in string */
+    DM_ERROR_INVALID_TIME = 15,                 /* invalid date or time */
+    DM_ERROR_UNSUPPORTED = 16,                  /* unsupported */
+    DM_ERROR_OVERRUN = 17,                      /* item runs past the end of its container (more octets don't help) */
+    DM_ERROR_PARSER_FAULT = 18,                 /* parser fault */
     /* rules of DER (X.690 8.3, 10 and 11) */
-    DM_ERROR_INDEFINITE_LENGTH = 32,
-    DM_ERROR_LENGTH_NOT_MINIMAL = 33,
-    DM_ERROR_CONSTRUCTED = 34,
-    DM_ERROR_INVALID_BOOLEAN = 35,
-    DM_ERROR_INTEGER_EMPTY = 36,
-    DM_ERROR_INTEGER_LEADING_ZEROES = 37,
-    DM_ERROR_INTEGER_LEADING_FF = 38,
-    DM_ERROR_MISSING_TIME_ZONE = 39,
-    DM_ERROR_MISSING_SECONDS = 40,
-    DM_ERROR_FRACTION_NOT_MINIMAL = 41,
-    DM_ERROR_UNUSED_BITS_NOT_ZERO = 42,
-    DM_ERROR_SET_OUT_OF_ORDER = 43,
+    DM_ERROR_INDEFINITE_LENGTH = 32,            /* DER constraint failed: indefinite length */
+    DM_ERROR_LENGTH_NOT_MINIMAL = 33,           /* DER constraint failed: length not minimal */
+    DM_ERROR_CONSTRUCTED = 34,                  /* DER constraint failed: constructed */
+    DM_ERROR_INVALID_BOOLEAN = 35,              /* DER constraint failed: invalid boolean */
+    DM_ERROR_INTEGER_EMPTY = 36,                /* DER constraint failed: integer empty */
+    DM_ERROR_INTEGER_LEADING_ZEROES = 37,       /* DER constraint failed: integer with leading zeroes */
+    DM_ERROR_INTEGER_LEADING_FF = 38,           /* DER constraint failed: integer with leading ff */
+    DM_ERROR_MISSING_TIME_ZONE = 39,            /* DER constraint failed: missing time zone */
+    DM_ERROR_MISSING_SECONDS = 40,              /* DER constraint failed: missing seconds */
+    DM_ERROR_FRACTION_NOT_MINIMAL = 41,         /* DER constraint failed: fraction not minimal */
+    DM_ERROR_UNUSED_BITS_NOT_ZERO = 42,         /* DER constraint failed: unused bits not zero */
+    DM_ERROR_SET_OUT_OF_ORDER = 43,             /* DER constraint failed: set out of order */
     /* end-of-contents octets (8.1.5) */
-    DM_ERROR_NO_END_MARKER = 48,
-    DM_ERROR_STRAY_END_MARKER = 49,
+    DM_ERROR_NO_END_MARKER = 48,                /* an indefinite length has no end-of-contents octets (X.690 8.1.3.6) */
+    DM_ERROR_STRAY_END_MARKER = 49,             /* end-of-contents octets, and no indefinite length ends here (X.690
+                                                 * 8.1.5) */
     /* only of dm_write_der */
-    DM_ERROR_PART_OF_ANOTHER_TYPE = 50,
-    DM_ERROR_UNUSED_BITS_INSIDE = 51,
-    DM_ERROR_NOT_DER = 52,
+    DM_ERROR_PART_OF_ANOTHER_TYPE = 50,         /* a part of a constructed string isn't an OCTET STRING, or of a BIT
+                                                 * STRING no BIT STRING (X.690 8.6.4 and 8.7.3) */
+    DM_ERROR_UNUSED_BITS_INSIDE = 51,           /* a part of a BIT STRING has unused bits, and another part follows
+                                                 * (X.690 8.6.4) */
+    DM_ERROR_NOT_DER = 52,                      /* these are no elements of DER (X.690 10) */
     /* rules of content octets, of the calls that list, check and write elements */
-    DM_ERROR_BOOLEAN_LENGTH = 64, /* 8.2.1 */
-    DM_ERROR_BOOLEAN_VALUE = 65, /* 11.1 */
-    DM_ERROR_NUMBER_EMPTY = 66, /* 8.3.1 */
-    DM_ERROR_NUMBER_PADDED = 67, /* 8.3.2 */
-    DM_ERROR_UNUSED_BITS_MISSING = 68, /* 8.6.2.1 */
-    DM_ERROR_UNUSED_BITS_ABOVE_SEVEN = 69, /* 8.6.2.2 */
-    DM_ERROR_UNUSED_BITS_OF_NONE = 70, /* 8.6.2.3 */
-    DM_ERROR_UNUSED_BIT_IS_SET = 71, /* 11.2.1 */
-    DM_ERROR_NULL_NOT_EMPTY = 72, /* 8.8.2 */
-    DM_ERROR_IDENTIFIER_EMPTY = 73, /* 8.19.2, 8.20.2 */
-    DM_ERROR_ARC_OPEN = 74, /* 8.19.2, 8.20.2 */
-    DM_ERROR_ARC_PADDED = 75, /* 8.19.2, 8.20.2 */
-    DM_ERROR_REAL_BASE_RESERVED = 76, /* 8.5.7.2 */
-    DM_ERROR_REAL_EXPONENT_MISSING = 77, /* 8.5.7.4 */
-    DM_ERROR_REAL_MANTISSA_MISSING = 78, /* 8.5.7.5 */
-    DM_ERROR_REAL_EXPONENT_PADDED = 79, /* 8.5.7.4 */
-    DM_ERROR_REAL_BASE_OR_SCALE = 80, /* 11.3.1 */
-    DM_ERROR_REAL_EXPONENT_NOT_FEWEST = 81, /* 11.3.1 */
-    DM_ERROR_REAL_MANTISSA_NOT_FEWEST = 82, /* 11.3.1 */
-    DM_ERROR_REAL_SPECIAL = 83, /* 8.5.9 */
-    DM_ERROR_REAL_DECIMAL = 84, /* 8.5.8 */
-    DM_ERROR_REAL_DECIMAL_NOT_STRICT = 85, /* 11.3.2 */
-    DM_ERROR_NOT_UTF8 = 86, /* 8.23.10 */
-    DM_ERROR_CHARACTER_OUTSIDE = 87, /* 8.23 */
-    DM_ERROR_UNIVERSAL_STRING_LENGTH = 88, /* 8.23.7 */
-    DM_ERROR_BMP_STRING_LENGTH = 89, /* 8.23.9 */
-    DM_ERROR_TIME_TEXT = 90, /* 8.25 */
-    DM_ERROR_TIME_NOT_IN_Z = 91, /* 11.7.1, 11.8.1 */
-    DM_ERROR_TIME_WITHOUT_SECONDS = 92, /* 11.7.2, 11.8.2 */
-    DM_ERROR_TIME_COMMA = 93, /* 11.7.4 */
-    DM_ERROR_TIME_LAST_ZERO = 94, /* 11.7.3 */
-    DM_ERROR_SEQUENCE_PRIMITIVE = 95, /* 8.9.1 */
-    DM_ERROR_SET_PRIMITIVE = 96, /* 8.11.1 */
-    DM_ERROR_EMBEDDED_PDV_PRIMITIVE = 97, /* 8.17 */
-    DM_ERROR_EXTERNAL_PRIMITIVE = 98, /* 8.18.1 */
-    DM_ERROR_CHARACTER_STRING_PRIMITIVE = 99, /* 8.24 */
+    DM_ERROR_BOOLEAN_LENGTH = 64,               /* a BOOLEAN isn't one octet (X.690 8.2.1) */
+    DM_ERROR_BOOLEAN_VALUE = 65,                /* a BOOLEAN is neither 00 nor ff (X.690 11.1) */
+    DM_ERROR_NUMBER_EMPTY = 66,                 /* a number has no octets (X.690 8.3.1) */
+    DM_ERROR_NUMBER_PADDED = 67,                /* the first nine bits of a number are alike (X.690 8.3.2) */
+    DM_ERROR_UNUSED_BITS_MISSING = 68,          /* a BIT STRING has no octets (X.690 8.6.2.1) */
+    DM_ERROR_UNUSED_BITS_ABOVE_SEVEN = 69,      /* more than seven bits are unused (X.690 8.6.2.2) */
+    DM_ERROR_UNUSED_BITS_OF_NONE = 70,          /* a BIT STRING without bits has unused ones (X.690 8.6.2.3) */
+    DM_ERROR_UNUSED_BIT_IS_SET = 71,            /* an unused bit isn't 0 (X.690 11.2.1) */
+    DM_ERROR_NULL_NOT_EMPTY = 72,               /* a NULL has octets (X.690 8.8.2) */
+    DM_ERROR_IDENTIFIER_EMPTY = 73,             /* an identifier has no octets (X.690 8.19.2, 8.20.2) */
+    DM_ERROR_ARC_OPEN = 74,                     /* the last arc has no end (X.690 8.19.2, 8.20.2) */
+    DM_ERROR_ARC_PADDED = 75,                   /* an arc begins with 80 (X.690 8.19.2, 8.20.2) */
+    DM_ERROR_REAL_BASE_RESERVED = 76,           /* the base of a REAL is a reserved one (X.690 8.5.7.2) */
+    DM_ERROR_REAL_EXPONENT_MISSING = 77,        /* a REAL has no exponent (X.690 8.5.7.4) */
+    DM_ERROR_REAL_MANTISSA_MISSING = 78,        /* a REAL has no mantissa (X.690 8.5.7.5) */
+    DM_ERROR_REAL_EXPONENT_PADDED = 79,         /* the first nine bits of an exponent are alike (X.690 8.5.7.4) */
+    DM_ERROR_REAL_BASE_OR_SCALE = 80,           /* a REAL has a base other than 2 or a scaling factor (X.690 11.3.1) */
+    DM_ERROR_REAL_EXPONENT_NOT_FEWEST = 81,     /* an exponent isn't in its fewest octets (X.690 11.3.1) */
+    DM_ERROR_REAL_MANTISSA_NOT_FEWEST = 82,     /* a mantissa is even or begins with 00 (X.690 11.3.1) */
+    DM_ERROR_REAL_SPECIAL = 83,                 /* a special value of a REAL isn't known (X.690 8.5.9) */
+    DM_ERROR_REAL_DECIMAL = 84,                 /* a decimal REAL isn't in its form of ISO 6093 (X.690 8.5.8) */
+    DM_ERROR_REAL_DECIMAL_NOT_STRICT = 85,      /* a decimal REAL has needless characters (X.690 11.3.2) */
+    DM_ERROR_NOT_UTF8 = 86,                     /* a text isn't UTF-8 (X.690 8.21, 8.22, 8.23.10) */
+    DM_ERROR_CHARACTER_OUTSIDE = 87,            /* an octet is outside of the character set (X.690 8.23) */
+    DM_ERROR_UNIVERSAL_STRING_LENGTH = 88,      /* a UniversalString isn't groups of four octets (X.690 8.23.7) */
+    DM_ERROR_BMP_STRING_LENGTH = 89,            /* a BMPString isn't pairs of octets (X.690 8.23.9) */
+    DM_ERROR_TIME_TEXT = 90,                    /* a time isn't a text of its type (X.690 8.25) */
+    DM_ERROR_TIME_NOT_IN_Z = 91,                /* a time doesn't end in Z (X.690 11.7.1, 11.8.1) */
+    DM_ERROR_TIME_WITHOUT_SECONDS = 92,         /* a time has no seconds (X.690 11.7.2, 11.8.2) */
+    DM_ERROR_TIME_COMMA = 93,                   /* a fraction has a comma (X.690 11.7.4) */
+    DM_ERROR_TIME_LAST_ZERO = 94,               /* a fraction ends in 0 (X.690 11.7.3) */
+    DM_ERROR_SEQUENCE_PRIMITIVE = 95,           /* a SEQUENCE is primitive (X.690 8.9.1) */
+    DM_ERROR_SET_PRIMITIVE = 96,                /* a SET is primitive (X.690 8.11.1) */
+    DM_ERROR_EMBEDDED_PDV_PRIMITIVE = 97,       /* an EMBEDDED PDV is primitive (X.690 8.17) */
+    DM_ERROR_EXTERNAL_PRIMITIVE = 98,           /* an EXTERNAL is primitive (X.690 8.18.1) */
+    DM_ERROR_CHARACTER_STRING_PRIMITIVE = 99,   /* a CHARACTER STRING is primitive (X.690 8.24) */
     /* rules of RFC 5280 that its ASN.1 doesn't say, of dm_read_strict_certificate */
-    DM_ERROR_ALGORITHMS_DIFFER = 128, /* 4.1.1.2 */
-    DM_ERROR_SERIAL_NUMBER_NOT_POSITIVE = 129, /* 4.1.2.2 */
-    DM_ERROR_SERIAL_NUMBER_TOO_LONG = 130, /* 4.1.2.2: more than 20 octets */
-    DM_ERROR_ISSUER_EMPTY = 131, /* 4.1.2.4 */
-    DM_ERROR_ATTRIBUTES_OUT_OF_ORDER = 132, /* 4.1, X.690 11.6 */
-    DM_ERROR_EARLY_GENERALIZED_TIME = 133, /* 4.1.2.5: a time to the end of 2049 is a UTCTime */
-    DM_ERROR_TIME_WITH_FRACTION = 134, /* 4.1.2.5.2 */
-    DM_ERROR_UNIQUE_ID_IN_VERSION_1 = 135, /* 4.1.2.8 */
-    DM_ERROR_EXTENSIONS_BEFORE_VERSION_3 = 136, /* 4.1.2.9 */
-    DM_ERROR_EXTENSION_REPEATED = 137, /* 4.2, or more than 512 extensions (B) */
-    DM_ERROR_SUBJECT_WITHOUT_NAME = 138, /* 4.1.2.6, 4.2.1.6 */
-    DM_ERROR_VALUE_NOT_DER = 139, /* X.690 10 */
+    DM_ERROR_ALGORITHMS_DIFFER = 128,           /* the signature algorithms differ (4.1.1.2) */
+    DM_ERROR_SERIAL_NUMBER_NOT_POSITIVE = 129,  /* the serial number is not positive (4.1.2.2) */
+    DM_ERROR_SERIAL_NUMBER_TOO_LONG = 130,      /* the serial number has more than 20 octets (4.1.2.2) */
+    DM_ERROR_ISSUER_EMPTY = 131,                /* the issuer has no name (4.1.2.4) */
+    DM_ERROR_ATTRIBUTES_OUT_OF_ORDER = 132,     /* attributes of a relative name are out of order (4.1, X.690 11.6) */
+    DM_ERROR_EARLY_GENERALIZED_TIME = 133,      /* a time before 2050 is a GeneralizedTime (4.1.2.5) */
+    DM_ERROR_TIME_WITH_FRACTION = 134,          /* a time has a fraction of a second (4.1.2.5.2) */
+    DM_ERROR_UNIQUE_ID_IN_VERSION_1 = 135,      /* a unique identifier in version 1 (4.1.2.8) */
+    DM_ERROR_EXTENSIONS_BEFORE_VERSION_3 = 136, /* extensions before version 3 (4.1.2.9) */
+    DM_ERROR_EXTENSION_REPEATED = 137,          /* an extension is repeated, or there are more than 512 (4.2) */
+    DM_ERROR_SUBJECT_WITHOUT_NAME = 138,        /* the subject has no name (4.1.2.6, 4.2.1.6) */
+    DM_ERROR_VALUE_NOT_DER = 139,               /* a value of any type is not DER (X.690 10) */
     /* of dm_next_pem (RFC 7468 2, 3) */
-    DM_ERROR_PEM_NO_BLOCK = 192, /* no line that begins a block follows */
-    DM_ERROR_PEM_NO_END = 193, /* no line ends the block, or another one begins before */
-    DM_ERROR_PEM_LABELS_DIFFER = 194,
-    DM_ERROR_PEM_ENCRYPTED = 195, /* RFC 1421 4.6.1.1 */
-    DM_ERROR_PEM_BASE64 = 196, /* RFC 4648 4 */
-    DM_ERROR_PEM_NO_ROOM = 197
+    DM_ERROR_PEM_NO_BLOCK = 192,                /* no line -----BEGIN ..----- */
+    DM_ERROR_PEM_NO_END = 193,                  /* a block without its line -----END ..----- */
+    DM_ERROR_PEM_LABELS_DIFFER = 194,           /* a block whose first and last line have other labels */
+    DM_ERROR_PEM_ENCRYPTED = 195,               /* the block is encrypted (RFC 1421 4.6.1.1) */
+    DM_ERROR_PEM_BASE64 = 196,                  /* invalid base64 (RFC 4648 4) */
+    DM_ERROR_PEM_NO_ROOM = 197,                 /* a buffer is too small for the block */
+    /* the text of dm_found_text */
+    DM_ERROR_PEM_INPUT = 198                    /* this is PEM, which dm_decode_input decodes */
 };
 
 /* Writes the text of an error without a terminating 0, cut to `room` octets. Returns the length of the whole text, at
@@ -229,7 +242,7 @@ size_t dm_error_text(uint32_t error, uint8_t *text, size_t room);
 
 #define DM_TEXT_OCTETS 160
 
-/* The text of an error as a string of C; "unknown error" for other numbers. */
+/* The text of an error as a string of C. */
 static inline const char *dm_error_string(uint32_t error) {
     switch (error) {
     case 0: return "no error";
@@ -266,8 +279,8 @@ static inline const char *dm_error_string(uint32_t error) {
     case DM_ERROR_NO_END_MARKER: return "an indefinite length has no end-of-contents octets (X.690 8.1.3.6)";
     case DM_ERROR_STRAY_END_MARKER: return "end-of-contents octets, and no indefinite length ends here (X.690 8.1.5)";
     case DM_ERROR_PART_OF_ANOTHER_TYPE:
-        return "a part of a constructed string isn't an OCTET STRING, or of a BIT STRING no BIT STRING "
-               "(X.690 8.6.4 and 8.7.3)";
+        return "a part of a constructed string isn't an OCTET STRING, or of a BIT STRING no BIT STRING (X.690 8.6.4 "
+               "and 8.7.3)";
     case DM_ERROR_UNUSED_BITS_INSIDE:
         return "a part of a BIT STRING has unused bits, and another part follows (X.690 8.6.4)";
     case DM_ERROR_NOT_DER: return "these are no elements of DER (X.690 10)";
@@ -325,6 +338,7 @@ static inline const char *dm_error_string(uint32_t error) {
     case DM_ERROR_PEM_ENCRYPTED: return "the block is encrypted";
     case DM_ERROR_PEM_BASE64: return "invalid base64";
     case DM_ERROR_PEM_NO_ROOM: return "a buffer is too small for the block";
+    case DM_ERROR_PEM_INPUT: return "this is PEM, which dm_decode_input decodes";
     default: return "unknown error";
     }
 }
@@ -343,6 +357,38 @@ uint32_t dm_read_bool(const uint8_t *content, size_t length, uint8_t *value);
  * of 2^128 or more, is an error. */
 uint32_t dm_read_oid(const uint8_t *content, size_t length, uint8_t *text, size_t room, size_t *needed);
 
+/* The dotted texts of some OBJECT IDENTIFIERs: types of attributes (RFC 5280 A, RFC 4519), keys (RFC 8017, RFC 5480,
+ * RFC 8410), signatures (RFC 8017, RFC 5758), purposes (RFC 5280 4.2.1.12), access to information (4.2.2.1), anyPolicy
+ * (4.2.1.4), and attributes of requests (RFC 2985). */
+#define DM_OID_COMMON_NAME "2.5.4.3"
+#define DM_OID_SERIAL_NUMBER "2.5.4.5"
+#define DM_OID_COUNTRY_NAME "2.5.4.6"
+#define DM_OID_LOCALITY_NAME "2.5.4.7"
+#define DM_OID_STATE_OR_PROVINCE_NAME "2.5.4.8"
+#define DM_OID_ORGANIZATION_NAME "2.5.4.10"
+#define DM_OID_ORGANIZATIONAL_UNIT_NAME "2.5.4.11"
+#define DM_OID_DOMAIN_COMPONENT "0.9.2342.19200300.100.1.25"
+#define DM_OID_EMAIL_ADDRESS "1.2.840.113549.1.9.1"
+#define DM_OID_RSA_ENCRYPTION "1.2.840.113549.1.1.1"
+#define DM_OID_EC_PUBLIC_KEY "1.2.840.10045.2.1"
+#define DM_OID_ED25519 "1.3.101.112"
+#define DM_OID_SHA256_WITH_RSA_ENCRYPTION "1.2.840.113549.1.1.11"
+#define DM_OID_SHA384_WITH_RSA_ENCRYPTION "1.2.840.113549.1.1.12"
+#define DM_OID_SHA512_WITH_RSA_ENCRYPTION "1.2.840.113549.1.1.13"
+#define DM_OID_ECDSA_WITH_SHA256 "1.2.840.10045.4.3.2"
+#define DM_OID_ECDSA_WITH_SHA384 "1.2.840.10045.4.3.3"
+#define DM_OID_SERVER_AUTH "1.3.6.1.5.5.7.3.1"
+#define DM_OID_CLIENT_AUTH "1.3.6.1.5.5.7.3.2"
+#define DM_OID_CODE_SIGNING "1.3.6.1.5.5.7.3.3"
+#define DM_OID_EMAIL_PROTECTION "1.3.6.1.5.5.7.3.4"
+#define DM_OID_TIME_STAMPING "1.3.6.1.5.5.7.3.8"
+#define DM_OID_OCSP_SIGNING "1.3.6.1.5.5.7.3.9"
+#define DM_OID_OCSP "1.3.6.1.5.5.7.48.1"
+#define DM_OID_CA_ISSUERS "1.3.6.1.5.5.7.48.2"
+#define DM_OID_ANY_POLICY "2.5.29.32.0"
+#define DM_OID_CHALLENGE_PASSWORD "1.2.840.113549.1.9.7"
+#define DM_OID_EXTENSION_REQUEST "1.2.840.113549.1.9.14"
+
 /* Checks a text of the string type with this tag number (8.23), and returns 0 or an error. Another number is an error.
  * - By character set: 18 NumericString, 19 PrintableString, 22 IA5String, 26 VisibleString.
  * - As UTF-8: 7 ObjectDescriptor, 12 UTF8String, 20 T61String, 21 VideotexString, 25 GraphicString, 27 GeneralString.
@@ -351,16 +397,16 @@ uint32_t dm_check_text(uint32_t number, const uint8_t *content, size_t length);
 
 /* The fields of a UTCTime (23) or a GeneralizedTime (24). */
 typedef struct dm_time {
-    uint32_t year;        /* UTCTime: 1950 to 2049 (RFC 5280 4.1.2.5.1) */
-    uint32_t nanosecond;  /* 0 if there is no fraction */
-    uint8_t month;        /* 1 to 12 */
-    uint8_t day;          /* 1 to 31, whatever the month */
-    uint8_t hour;         /* 0 to 23 */
-    uint8_t minute;       /* 0 to 59 */
-    uint8_t second;       /* 0 to 59 */
-    uint8_t zone;         /* one of enum dm_zone */
-    int8_t zone_hours;    /* DM_OFFSET: hours from UTC, negative to the west */
-    int8_t zone_minutes;  /* DM_OFFSET: minutes, with the same sign */
+    uint32_t year;       /* UTCTime: 1950 to 2049 (RFC 5280 4.1.2.5.1) */
+    uint32_t nanosecond; /* 0 if there is no fraction */
+    uint8_t month;       /* 1 to 12 */
+    uint8_t day;         /* 1 to 31, whatever the month */
+    uint8_t hour;        /* 0 to 23 */
+    uint8_t minute;      /* 0 to 59 */
+    uint8_t second;      /* 0 to 59 */
+    uint8_t zone;        /* one of enum dm_zone */
+    int8_t zone_hours;   /* DM_OFFSET: hours from UTC, negative to the west */
+    int8_t zone_minutes; /* DM_OFFSET: minutes, with the same sign */
 } dm_time;
 
 enum dm_zone { DM_LOCAL = 0, DM_UTC = 1, DM_OFFSET = 2 };
@@ -380,12 +426,12 @@ uint32_t dm_read_time(uint32_t number, const uint8_t *content, size_t length, dm
  * Elements that don't fit are only counted, and dm_finish returns whether all fit. So a capacity of 0 counts. Octets
  * after the counted ones stay as they are. The buffer is the caller's: no call frees or moves it. */
 typedef struct dm_writer {
-    uint8_t *octets;    /* the buffer */
-    size_t capacity;    /* its size in octets */
-    size_t count;       /* octets so far, whether they fit or not */
-    size_t innermost;   /* offset of the innermost open element's length; 0 if none is open */
-    uint32_t implicit;  /* 0, or 1 + the enum dm_class of the next element's implicit tag */
-    uint32_t number;    /* the number of that tag */
+    uint8_t *octets;   /* the buffer */
+    size_t capacity;   /* its size in octets */
+    size_t count;      /* octets so far, whether they fit or not */
+    size_t innermost;  /* offset of the innermost open element's length; 0 if none is open */
+    uint32_t implicit; /* 0, or 1 + the enum dm_class of the next element's implicit tag */
+    uint32_t number;   /* the number of that tag */
 } dm_writer;
 
 /* An element that is open. */
@@ -468,91 +514,175 @@ typedef struct dm_octets {
     size_t length;
 } dm_octets;
 
+/* Returns 1 if content octets are the OBJECT IDENTIFIER with this dotted text, such as DM_OID_COMMON_NAME, else 0. A
+ * text of more than 128 characters is never one. */
+static inline uint32_t dm_is_oid(dm_octets content, const char *dotted) {
+    uint8_t text[128];
+    size_t length = 0, needed = 0;
+    while (length <= sizeof text && dotted[length] != 0) length++;
+    if (dm_read_oid(content.octets, content.length, text, sizeof text, &needed) != 0) return 0;
+    if (needed != length || length > sizeof text) return 0;
+    while (length > 0 && text[length - 1] == (uint8_t)dotted[length - 1]) length--;
+    return length == 0;
+}
+
 /* A list is a dm_octets too: the encodings of its items. A call dm_next_.. writes the first item, removes it from the
  * list and returns 1. At the end, or if the octets begin with no such item, it returns 0 and changes nothing. A list
  * that was read with a certificate contains only items. */
 
 /* Why an input was rejected. With DM_OK all fields are 0. */
 typedef struct dm_fault {
-    size_t offset;    /* offset of the wrong element */
-    size_t list_end;  /* offset of the end of the element around it, if is_in_list is 1 */
-    size_t needed;    /* DM_INCOMPLETE, DM_ERROR_OVERRUN: number of missing octets, or for a value of a universal type
-                       * its length, as far as the input shows. 0 if that isn't known */
-    uint32_t status;  /* DM_OK, DM_ERROR or DM_INCOMPLETE */
-    uint32_t error;   /* DM_ERROR: one of enum dm_error */
-    uint32_t field;   /* one of enum dm_field: the first field that is wrong */
+    size_t offset;       /* offset of the wrong element */
+    size_t list_end;     /* offset of the end of the element around it, if is_in_list is 1 */
+    size_t needed;       /* DM_INCOMPLETE, DM_ERROR_OVERRUN: number of missing octets, or for a value of a universal
+                          * type its length, as far as the input shows. 0 if that isn't known */
+    uint32_t status;     /* DM_OK, DM_ERROR or DM_INCOMPLETE */
+    uint32_t error;      /* DM_ERROR: one of enum dm_error */
+    uint32_t field;      /* one of enum dm_field: the first field that is wrong */
     uint32_t is_in_list; /* 1 if the element is inside another, 0 if it is outermost */
 } dm_fault;
 
-/* The fields of certificates (RFC 5280 4.1), CRLs (5.1), requests (RFC 2986 4), private keys (RFC 5958 2, 3; RSA:
- * RFC 8017 A.1.2; EC: RFC 5915 3), and public keys (RFC 5280 4.1.2.7, RFC 8017 A.1.1). */
+/* The fields of certificates (RFC 5280 4.1), CRLs (5.1), requests (RFC 2986 4), private keys (RFC 5958 2, 3; RSA: RFC
+ * 8017 A.1.2; EC: RFC 5915 3), and public keys (RFC 5280 4.1.2.7, RFC 8017 A.1.1). */
 enum dm_field {
-    DM_FIELD_NONE = 0, /* of a call that reads one value */
-    DM_FIELD_CERTIFICATE = 1, /* the outermost SEQUENCE, octets after it, or a rule of dm_read_strict_certificate */
-    DM_FIELD_TBS_CERTIFICATE = 2,
-    DM_FIELD_VERSION = 3,
-    DM_FIELD_SERIAL_NUMBER = 4,
-    DM_FIELD_SIGNATURE = 5,
-    DM_FIELD_ISSUER = 6,
-    DM_FIELD_VALIDITY = 7,
-    DM_FIELD_SUBJECT = 8,
-    DM_FIELD_SUBJECT_PUBLIC_KEY_INFO = 9,
-    DM_FIELD_ISSUER_UNIQUE_ID = 10,
-    DM_FIELD_SUBJECT_UNIQUE_ID = 11,
-    DM_FIELD_EXTENSIONS = 12,
-    DM_FIELD_SIGNATURE_ALGORITHM = 13,
-    DM_FIELD_SIGNATURE_VALUE = 14,
-    DM_FIELD_LIST = 32, /* CertificateList */
-    DM_FIELD_TBS_LIST = 33,
-    DM_FIELD_LIST_VERSION = 34,
-    DM_FIELD_LIST_SIGNATURE = 35,
-    DM_FIELD_LIST_ISSUER = 36,
-    DM_FIELD_THIS_UPDATE = 37,
-    DM_FIELD_NEXT_UPDATE = 38,
-    DM_FIELD_REVOKED_CERTIFICATES = 39,
-    DM_FIELD_LIST_EXTENSIONS = 40,
-    DM_FIELD_LIST_SIGNATURE_ALGORITHM = 41,
-    DM_FIELD_LIST_SIGNATURE_VALUE = 42,
-    DM_FIELD_REQUEST = 64, /* CertificationRequest */
-    DM_FIELD_REQUEST_INFO = 65,
-    DM_FIELD_REQUEST_VERSION = 66,
-    DM_FIELD_REQUEST_SUBJECT = 67,
-    DM_FIELD_REQUEST_KEY = 68,
-    DM_FIELD_REQUEST_ATTRIBUTES = 69,
-    DM_FIELD_REQUEST_SIGNATURE_ALGORITHM = 70,
-    DM_FIELD_REQUEST_SIGNATURE = 71,
-    DM_FIELD_KEY = 96, /* PrivateKeyInfo */
-    DM_FIELD_KEY_VERSION = 97,
-    DM_FIELD_KEY_ALGORITHM = 98,
-    DM_FIELD_KEY_OCTETS = 99,
-    DM_FIELD_KEY_ATTRIBUTES = 100,
-    DM_FIELD_KEY_PUBLIC_KEY = 101,
-    DM_FIELD_RSA_KEY = 112, /* RSAPrivateKey */
-    DM_FIELD_RSA_VERSION = 113,
-    DM_FIELD_RSA_MODULUS = 114,
-    DM_FIELD_RSA_PUBLIC_EXPONENT = 115,
-    DM_FIELD_RSA_PRIVATE_EXPONENT = 116,
-    DM_FIELD_RSA_PRIME1 = 117,
-    DM_FIELD_RSA_PRIME2 = 118,
-    DM_FIELD_RSA_EXPONENT1 = 119,
-    DM_FIELD_RSA_EXPONENT2 = 120,
-    DM_FIELD_RSA_COEFFICIENT = 121,
-    DM_FIELD_RSA_OTHER_PRIMES = 122,
-    DM_FIELD_EC_KEY = 128, /* ECPrivateKey */
-    DM_FIELD_EC_VERSION = 129,
-    DM_FIELD_EC_OCTETS = 130,
-    DM_FIELD_EC_PARAMETERS = 131,
-    DM_FIELD_EC_PUBLIC_KEY = 132,
-    DM_FIELD_ENCRYPTED_KEY = 144, /* EncryptedPrivateKeyInfo */
-    DM_FIELD_ENCRYPTED_ALGORITHM = 145,
-    DM_FIELD_ENCRYPTED_DATA = 146,
-    DM_FIELD_PUBLIC_KEY = 160, /* SubjectPublicKeyInfo */
-    DM_FIELD_PUBLIC_ALGORITHM = 161,
-    DM_FIELD_PUBLIC_BITS = 162,
-    DM_FIELD_PUBLIC_RSA_KEY = 176, /* RSAPublicKey */
-    DM_FIELD_PUBLIC_RSA_MODULUS = 177,
-    DM_FIELD_PUBLIC_RSA_EXPONENT = 178
+    DM_FIELD_NONE = 0,                         /* of a call that reads one value */
+    DM_FIELD_CERTIFICATE = 1,                  /* Certificate (octets after it, or a rule of
+                                                * dm_read_strict_certificate) */
+    DM_FIELD_TBS_CERTIFICATE = 2,              /* tbsCertificate */
+    DM_FIELD_VERSION = 3,                      /* tbsCertificate.version */
+    DM_FIELD_SERIAL_NUMBER = 4,                /* tbsCertificate.serialNumber */
+    DM_FIELD_SIGNATURE = 5,                    /* tbsCertificate.signature */
+    DM_FIELD_ISSUER = 6,                       /* tbsCertificate.issuer */
+    DM_FIELD_VALIDITY = 7,                     /* tbsCertificate.validity */
+    DM_FIELD_SUBJECT = 8,                      /* tbsCertificate.subject */
+    DM_FIELD_SUBJECT_PUBLIC_KEY_INFO = 9,      /* tbsCertificate.subjectPublicKeyInfo */
+    DM_FIELD_ISSUER_UNIQUE_ID = 10,            /* tbsCertificate.issuerUniqueID */
+    DM_FIELD_SUBJECT_UNIQUE_ID = 11,           /* tbsCertificate.subjectUniqueID */
+    DM_FIELD_EXTENSIONS = 12,                  /* tbsCertificate.extensions */
+    DM_FIELD_SIGNATURE_ALGORITHM = 13,         /* signatureAlgorithm */
+    DM_FIELD_SIGNATURE_VALUE = 14,             /* signatureValue */
+    DM_FIELD_LIST = 32,                        /* CertificateList */
+    DM_FIELD_TBS_LIST = 33,                    /* tbsCertList */
+    DM_FIELD_LIST_VERSION = 34,                /* tbsCertList.version */
+    DM_FIELD_LIST_SIGNATURE = 35,              /* tbsCertList.signature */
+    DM_FIELD_LIST_ISSUER = 36,                 /* tbsCertList.issuer */
+    DM_FIELD_THIS_UPDATE = 37,                 /* tbsCertList.thisUpdate */
+    DM_FIELD_NEXT_UPDATE = 38,                 /* tbsCertList.nextUpdate */
+    DM_FIELD_REVOKED_CERTIFICATES = 39,        /* tbsCertList.revokedCertificates */
+    DM_FIELD_LIST_EXTENSIONS = 40,             /* tbsCertList.crlExtensions */
+    DM_FIELD_LIST_SIGNATURE_ALGORITHM = 41,    /* signatureAlgorithm (CertificateList) */
+    DM_FIELD_LIST_SIGNATURE_VALUE = 42,        /* signatureValue (CertificateList) */
+    DM_FIELD_REQUEST = 64,                     /* CertificationRequest */
+    DM_FIELD_REQUEST_INFO = 65,                /* certificationRequestInfo */
+    DM_FIELD_REQUEST_VERSION = 66,             /* certificationRequestInfo.version */
+    DM_FIELD_REQUEST_SUBJECT = 67,             /* certificationRequestInfo.subject */
+    DM_FIELD_REQUEST_KEY = 68,                 /* certificationRequestInfo.subjectPKInfo */
+    DM_FIELD_REQUEST_ATTRIBUTES = 69,          /* certificationRequestInfo.attributes */
+    DM_FIELD_REQUEST_SIGNATURE_ALGORITHM = 70, /* signatureAlgorithm (CertificationRequest) */
+    DM_FIELD_REQUEST_SIGNATURE = 71,           /* signature (CertificationRequest) */
+    DM_FIELD_KEY = 96,                         /* PrivateKeyInfo */
+    DM_FIELD_KEY_VERSION = 97,                 /* version (PrivateKeyInfo) */
+    DM_FIELD_KEY_ALGORITHM = 98,               /* privateKeyAlgorithm (PrivateKeyInfo) */
+    DM_FIELD_KEY_OCTETS = 99,                  /* privateKey (PrivateKeyInfo) */
+    DM_FIELD_KEY_ATTRIBUTES = 100,             /* attributes (PrivateKeyInfo) */
+    DM_FIELD_KEY_PUBLIC_KEY = 101,             /* publicKey (PrivateKeyInfo) */
+    DM_FIELD_RSA_KEY = 112,                    /* RSAPrivateKey */
+    DM_FIELD_RSA_VERSION = 113,                /* version (RSAPrivateKey) */
+    DM_FIELD_RSA_MODULUS = 114,                /* modulus (RSAPrivateKey) */
+    DM_FIELD_RSA_PUBLIC_EXPONENT = 115,        /* publicExponent (RSAPrivateKey) */
+    DM_FIELD_RSA_PRIVATE_EXPONENT = 116,       /* privateExponent (RSAPrivateKey) */
+    DM_FIELD_RSA_PRIME1 = 117,                 /* prime1 (RSAPrivateKey) */
+    DM_FIELD_RSA_PRIME2 = 118,                 /* prime2 (RSAPrivateKey) */
+    DM_FIELD_RSA_EXPONENT1 = 119,              /* exponent1 (RSAPrivateKey) */
+    DM_FIELD_RSA_EXPONENT2 = 120,              /* exponent2 (RSAPrivateKey) */
+    DM_FIELD_RSA_COEFFICIENT = 121,            /* coefficient (RSAPrivateKey) */
+    DM_FIELD_RSA_OTHER_PRIMES = 122,           /* otherPrimeInfos (RSAPrivateKey) */
+    DM_FIELD_EC_KEY = 128,                     /* ECPrivateKey */
+    DM_FIELD_EC_VERSION = 129,                 /* version (ECPrivateKey) */
+    DM_FIELD_EC_OCTETS = 130,                  /* privateKey (ECPrivateKey) */
+    DM_FIELD_EC_PARAMETERS = 131,              /* parameters (ECPrivateKey) */
+    DM_FIELD_EC_PUBLIC_KEY = 132,              /* publicKey (ECPrivateKey) */
+    DM_FIELD_ENCRYPTED_KEY = 144,              /* EncryptedPrivateKeyInfo */
+    DM_FIELD_ENCRYPTED_ALGORITHM = 145,        /* encryptionAlgorithm (EncryptedPrivateKeyInfo) */
+    DM_FIELD_ENCRYPTED_DATA = 146,             /* encryptedData (EncryptedPrivateKeyInfo) */
+    DM_FIELD_PUBLIC_KEY = 160,                 /* SubjectPublicKeyInfo */
+    DM_FIELD_PUBLIC_ALGORITHM = 161,           /* algorithm (SubjectPublicKeyInfo) */
+    DM_FIELD_PUBLIC_BITS = 162,                /* subjectPublicKey (SubjectPublicKeyInfo) */
+    DM_FIELD_PUBLIC_RSA_KEY = 176,             /* RSAPublicKey */
+    DM_FIELD_PUBLIC_RSA_MODULUS = 177,         /* modulus (RSAPublicKey) */
+    DM_FIELD_PUBLIC_RSA_EXPONENT = 178         /* publicExponent (RSAPublicKey) */
 };
+
+/* The name of a field as a string of C; "" for DM_FIELD_NONE and other numbers. */
+static inline const char *dm_field_string(uint32_t field) {
+    switch (field) {
+    case DM_FIELD_CERTIFICATE: return "Certificate";
+    case DM_FIELD_TBS_CERTIFICATE: return "tbsCertificate";
+    case DM_FIELD_VERSION: return "tbsCertificate.version";
+    case DM_FIELD_SERIAL_NUMBER: return "tbsCertificate.serialNumber";
+    case DM_FIELD_SIGNATURE: return "tbsCertificate.signature";
+    case DM_FIELD_ISSUER: return "tbsCertificate.issuer";
+    case DM_FIELD_VALIDITY: return "tbsCertificate.validity";
+    case DM_FIELD_SUBJECT: return "tbsCertificate.subject";
+    case DM_FIELD_SUBJECT_PUBLIC_KEY_INFO: return "tbsCertificate.subjectPublicKeyInfo";
+    case DM_FIELD_ISSUER_UNIQUE_ID: return "tbsCertificate.issuerUniqueID";
+    case DM_FIELD_SUBJECT_UNIQUE_ID: return "tbsCertificate.subjectUniqueID";
+    case DM_FIELD_EXTENSIONS: return "tbsCertificate.extensions";
+    case DM_FIELD_SIGNATURE_ALGORITHM: return "signatureAlgorithm";
+    case DM_FIELD_SIGNATURE_VALUE: return "signatureValue";
+    case DM_FIELD_LIST: return "CertificateList";
+    case DM_FIELD_TBS_LIST: return "tbsCertList";
+    case DM_FIELD_LIST_VERSION: return "tbsCertList.version";
+    case DM_FIELD_LIST_SIGNATURE: return "tbsCertList.signature";
+    case DM_FIELD_LIST_ISSUER: return "tbsCertList.issuer";
+    case DM_FIELD_THIS_UPDATE: return "tbsCertList.thisUpdate";
+    case DM_FIELD_NEXT_UPDATE: return "tbsCertList.nextUpdate";
+    case DM_FIELD_REVOKED_CERTIFICATES: return "tbsCertList.revokedCertificates";
+    case DM_FIELD_LIST_EXTENSIONS: return "tbsCertList.crlExtensions";
+    case DM_FIELD_LIST_SIGNATURE_ALGORITHM: return "signatureAlgorithm";
+    case DM_FIELD_LIST_SIGNATURE_VALUE: return "signatureValue";
+    case DM_FIELD_REQUEST: return "CertificationRequest";
+    case DM_FIELD_REQUEST_INFO: return "certificationRequestInfo";
+    case DM_FIELD_REQUEST_VERSION: return "certificationRequestInfo.version";
+    case DM_FIELD_REQUEST_SUBJECT: return "certificationRequestInfo.subject";
+    case DM_FIELD_REQUEST_KEY: return "certificationRequestInfo.subjectPKInfo";
+    case DM_FIELD_REQUEST_ATTRIBUTES: return "certificationRequestInfo.attributes";
+    case DM_FIELD_REQUEST_SIGNATURE_ALGORITHM: return "signatureAlgorithm";
+    case DM_FIELD_REQUEST_SIGNATURE: return "signature";
+    case DM_FIELD_KEY: return "PrivateKeyInfo";
+    case DM_FIELD_KEY_VERSION: return "version";
+    case DM_FIELD_KEY_ALGORITHM: return "privateKeyAlgorithm";
+    case DM_FIELD_KEY_OCTETS: return "privateKey";
+    case DM_FIELD_KEY_ATTRIBUTES: return "attributes";
+    case DM_FIELD_KEY_PUBLIC_KEY: return "publicKey";
+    case DM_FIELD_RSA_KEY: return "RSAPrivateKey";
+    case DM_FIELD_RSA_VERSION: return "version";
+    case DM_FIELD_RSA_MODULUS: return "modulus";
+    case DM_FIELD_RSA_PUBLIC_EXPONENT: return "publicExponent";
+    case DM_FIELD_RSA_PRIVATE_EXPONENT: return "privateExponent";
+    case DM_FIELD_RSA_PRIME1: return "prime1";
+    case DM_FIELD_RSA_PRIME2: return "prime2";
+    case DM_FIELD_RSA_EXPONENT1: return "exponent1";
+    case DM_FIELD_RSA_EXPONENT2: return "exponent2";
+    case DM_FIELD_RSA_COEFFICIENT: return "coefficient";
+    case DM_FIELD_RSA_OTHER_PRIMES: return "otherPrimeInfos";
+    case DM_FIELD_EC_KEY: return "ECPrivateKey";
+    case DM_FIELD_EC_VERSION: return "version";
+    case DM_FIELD_EC_OCTETS: return "privateKey";
+    case DM_FIELD_EC_PARAMETERS: return "parameters";
+    case DM_FIELD_EC_PUBLIC_KEY: return "publicKey";
+    case DM_FIELD_ENCRYPTED_KEY: return "EncryptedPrivateKeyInfo";
+    case DM_FIELD_ENCRYPTED_ALGORITHM: return "encryptionAlgorithm";
+    case DM_FIELD_ENCRYPTED_DATA: return "encryptedData";
+    case DM_FIELD_PUBLIC_KEY: return "SubjectPublicKeyInfo";
+    case DM_FIELD_PUBLIC_ALGORITHM: return "algorithm";
+    case DM_FIELD_PUBLIC_BITS: return "subjectPublicKey";
+    case DM_FIELD_PUBLIC_RSA_KEY: return "RSAPublicKey";
+    case DM_FIELD_PUBLIC_RSA_MODULUS: return "modulus";
+    case DM_FIELD_PUBLIC_RSA_EXPONENT: return "publicExponent";
+    default: return "";
+    }
+}
 
 /* Writes the text of a fault, such as "tbsCertificate.version at 9: wrong value", as dm_error_text writes one. */
 size_t dm_fault_text(const dm_fault *fault, uint8_t *text, size_t room);
@@ -562,7 +692,8 @@ size_t dm_fault_text(const dm_fault *fault, uint8_t *text, size_t room);
 size_t dm_named_fault_text(const dm_fault *fault, const uint8_t *name, size_t length, uint8_t *text, size_t room);
 
 /* Writes the text of a fault of this input. For DM_ERROR_UNEXPECTED_TAG and DM_ERROR_UNEXPECTED_CLASS the element's tag
- * follows, such as ", found [APPLICATION 10]". */
+ * follows, such as ", found [APPLICATION 10]". If the input begins as PEM does, it is the text of
+ * DM_ERROR_PEM_INPUT. */
 size_t dm_found_text(const dm_fault *fault, const uint8_t *input, size_t length, uint8_t *text, size_t room);
 
 /* Writes a tag, such as "OCTET STRING" (X.680 8.4) or "[APPLICATION 10]". A class above 3 counts as DM_PRIVATE. Returns
@@ -627,6 +758,10 @@ uint32_t dm_read_certificate(const uint8_t *input, size_t length, dm_certificate
  * dm_broken_rules finds all rules that are broken, and knows more rules. */
 uint32_t dm_read_strict_certificate(const uint8_t *input, size_t length, dm_certificate *certificate, dm_fault *fault);
 
+/* Returns 1 if a certificate is valid at this time, both ends included, else 0. The time is in seconds since 1970-01-01
+ * 00:00:00 UTC, as time(NULL) returns it. */
+uint32_t dm_is_valid_at(const dm_certificate *certificate, uint64_t seconds);
+
 /* Names (4.1.2.4). dm_next_relative_name writes the attributes of a name's next relative name. */
 typedef struct dm_attribute {
     dm_octets identifier; /* the content octets of its type, an OBJECT IDENTIFIER */
@@ -640,10 +775,12 @@ typedef struct dm_attribute {
 uint32_t dm_next_relative_name(dm_octets *names, dm_octets *attributes);
 uint32_t dm_next_attribute(dm_octets *attributes, dm_attribute *attribute);
 
-/* Writes a certificate's name by RFC 4514 in printable ASCII, such as CN=example.org,O=Example\, Inc. Other characters
- * are escaped UTF-8, such as \C3\A9. The text is cut to `room` octets, without a terminating 0. Returns the length of
- * the whole text. The texts are tested, not proved. */
+/* Write a certificate's name by RFC 4514 as text, such as CN=example.org,O=Example\, Inc. dm_name_utf8 writes it in
+ * UTF-8, and dm_name_text in ASCII: there other characters are escaped UTF-8, such as \c3\a9. Control characters and
+ * those that change the direction of a text are escaped by both. The text is cut to `room` octets, without a
+ * terminating 0. Each returns the length of the whole text. */
 size_t dm_name_text(const uint8_t *name, size_t length, uint8_t *text, size_t room);
+size_t dm_name_utf8(const uint8_t *name, size_t length, uint8_t *text, size_t room);
 
 /* The next extension of a list (4.1.2.9). */
 typedef struct dm_extension {
@@ -655,12 +792,16 @@ typedef struct dm_extension {
 
 uint32_t dm_next_extension(dm_octets *extensions, dm_extension *extension);
 
+/* Finds the first extension of a list with one of enum dm_extension_kind, writes it, and returns 1. If there is none,
+ * returns 0 and writes nothing. */
+uint32_t dm_find_extension(const dm_octets *extensions, uint32_t kind, dm_extension *extension);
+
 /* Kinds of extensions (4.2, 5.2, 5.3). Numbers below 256 are the last arc of the OID, under 2.5.29 (id-ce). The two
  * information accesses and DM_QC_STATEMENTS are under 1.3.6.1.5.5.7.1 (id-pe). */
 enum dm_extension_kind {
     DM_EXTENSION_OTHER = 0,
     DM_AUTHORITY_INFO_ACCESS = 1,
-    DM_QC_STATEMENTS = 3, /* RFC 3739 3.2.6 */
+    DM_QC_STATEMENTS = 3,                   /* RFC 3739 3.2.6 */
     DM_SUBJECT_DIRECTORY_ATTRIBUTES = 9,
     DM_SUBJECT_INFO_ACCESS = 11,
     DM_SUBJECT_KEY_IDENTIFIER = 14,
@@ -668,12 +809,12 @@ enum dm_extension_kind {
     DM_SUBJECT_ALT_NAME = 17,
     DM_ISSUER_ALT_NAME = 18,
     DM_BASIC_CONSTRAINTS = 19,
-    DM_CRL_NUMBER = 20,                  /* CRL */
-    DM_REASON_CODE = 21,                 /* CRL entry */
-    DM_INVALIDITY_DATE = 24,             /* CRL entry */
-    DM_DELTA_CRL_INDICATOR = 27,         /* CRL */
-    DM_ISSUING_DISTRIBUTION_POINT = 28,  /* CRL */
-    DM_CERTIFICATE_ISSUER = 29,          /* CRL entry */
+    DM_CRL_NUMBER = 20,                     /* CRL */
+    DM_REASON_CODE = 21,                    /* CRL entry */
+    DM_INVALIDITY_DATE = 24,                /* CRL entry */
+    DM_DELTA_CRL_INDICATOR = 27,            /* CRL */
+    DM_ISSUING_DISTRIBUTION_POINT = 28,     /* CRL */
+    DM_CERTIFICATE_ISSUER = 29,             /* CRL entry */
     DM_NAME_CONSTRAINTS = 30,
     DM_CRL_DISTRIBUTION_POINTS = 31,
     DM_CERTIFICATE_POLICIES = 32,
@@ -683,12 +824,12 @@ enum dm_extension_kind {
     DM_EXTENDED_KEY_USAGE = 37,
     DM_FRESHEST_CRL = 46,
     DM_INHIBIT_ANY_POLICY = 54,
-    DM_NO_REV_AVAIL = 56,                  /* RFC 9608 2 */
-    DM_TLS_FEATURES = 256,                 /* 1.3.6.1.5.5.7.1.24 (RFC 7633 6) */
-    DM_OCSP_NO_CHECK = 257,                /* 1.3.6.1.5.5.7.48.1.5 (RFC 6960 4.2.2.2.1) */
+    DM_NO_REV_AVAIL = 56,                   /* RFC 9608 2 */
+    DM_TLS_FEATURES = 256,                  /* 1.3.6.1.5.5.7.1.24 (RFC 7633 6) */
+    DM_OCSP_NO_CHECK = 257,                 /* 1.3.6.1.5.5.7.48.1.5 (RFC 6960 4.2.2.2.1) */
     DM_SIGNED_CERTIFICATE_TIMESTAMPS = 258, /* 1.3.6.1.4.1.11129.2.4.2 (RFC 6962 3.3) */
-    DM_PRECERTIFICATE_POISON = 259,        /* 1.3.6.1.4.1.11129.2.4.3 (RFC 6962 3.1) */
-    DM_ORGANIZATION_IDENTIFIER = 260       /* 2.23.140.3.1 (CA/B Forum, EV Guidelines 9.8.2) */
+    DM_PRECERTIFICATE_POISON = 259,         /* 1.3.6.1.4.1.11129.2.4.3 (RFC 6962 3.1) */
+    DM_ORGANIZATION_IDENTIFIER = 260        /* 2.23.140.3.1 (CA/B Forum, EV Guidelines 9.8.2) */
 };
 
 /* Returns 1 if a critical extension is DM_EXTENSION_OTHER, else 0. If you know no other extensions, reject such a
@@ -709,19 +850,20 @@ typedef struct dm_basic_constraints {
 uint32_t dm_read_basic_constraints(const uint8_t *value, size_t length, dm_basic_constraints *constraints,
                                    dm_fault *fault);
 
-/* KeyUsage: a set of enum dm_key_usage. */
+/* Reads a set of enum dm_key_usage. */
 uint32_t dm_read_key_usage(const uint8_t *value, size_t length, uint32_t *usage, dm_fault *fault);
 
+/* KeyUsage (4.2.1.3): named bits, maybe none. */
 enum dm_key_usage {
-    DM_USAGE_DIGITAL_SIGNATURE = 1,
-    DM_USAGE_CONTENT_COMMITMENT = 2,
-    DM_USAGE_KEY_ENCIPHERMENT = 4,
-    DM_USAGE_DATA_ENCIPHERMENT = 8,
-    DM_USAGE_KEY_AGREEMENT = 16,
-    DM_USAGE_KEY_CERT_SIGN = 32,
-    DM_USAGE_CRL_SIGN = 64,
-    DM_USAGE_ENCIPHER_ONLY = 128,
-    DM_USAGE_DECIPHER_ONLY = 256
+    DM_USAGE_DIGITAL_SIGNATURE = 1,  /* digitalSignature */
+    DM_USAGE_CONTENT_COMMITMENT = 2, /* contentCommitment */
+    DM_USAGE_KEY_ENCIPHERMENT = 4,   /* keyEncipherment */
+    DM_USAGE_DATA_ENCIPHERMENT = 8,  /* dataEncipherment */
+    DM_USAGE_KEY_AGREEMENT = 16,     /* keyAgreement */
+    DM_USAGE_KEY_CERT_SIGN = 32,     /* keyCertSign */
+    DM_USAGE_CRL_SIGN = 64,          /* cRLSign */
+    DM_USAGE_ENCIPHER_ONLY = 128,    /* encipherOnly */
+    DM_USAGE_DECIPHER_ONLY = 256     /* decipherOnly */
 };
 
 /* SubjectAltName, IssuerAltName or CertificateIssuer (5.3.3): at least one name, read by dm_next_general_name. */
@@ -735,19 +877,29 @@ typedef struct dm_general_name {
     uint32_t reserved;    /* 0 */
 } dm_general_name;
 
-enum dm_general_name_kind { /* the numbers of the tags */
+/* The kinds of general names, by the numbers of their tags. */
+enum dm_general_name_kind {
     DM_OTHER_NAME = 0,
-    DM_RFC822_NAME = 1,   /* text of IA5String (ASCII) */
-    DM_DNS_NAME = 2,      /* text of IA5String */
+    DM_RFC822_NAME = 1, /* text of IA5String (ASCII) */
+    DM_DNS_NAME = 2,    /* text of IA5String */
     DM_X400_ADDRESS = 3,
     DM_DIRECTORY_NAME = 4,
     DM_EDI_PARTY_NAME = 5,
-    DM_URI = 6,           /* text of IA5String */
-    DM_IP_ADDRESS = 7,    /* 4 octets of IPv4, 16 of IPv6; the length isn't checked */
+    DM_URI = 6,         /* text of IA5String */
+    DM_IP_ADDRESS = 7,  /* 4 octets of IPv4, 16 of IPv6; the length isn't checked */
     DM_REGISTERED_ID = 8
 };
 
 uint32_t dm_next_general_name(dm_octets *names, dm_general_name *name);
+
+/* Takes the names up to the next DNS name, writes its text, and returns 1. If there is none, returns 0 and changes
+ * nothing. */
+uint32_t dm_next_dns_name(dm_octets *names, dm_octets *text);
+
+/* Reads the names of a subject from its extensions, those of a certificate or a request: the value of the one
+ * SubjectAltName (4.2.1.6). Without the extension there are no names. If it is repeated, the fault is the one of
+ * dm_read_strict_certificate. */
+uint32_t dm_read_subject_alt_names(const dm_octets *extensions, dm_octets *names, dm_fault *fault);
 
 /* ExtendedKeyUsage: at least one purpose. dm_next_key_purpose writes the content octets of its OID. */
 uint32_t dm_read_extended_key_usage(const uint8_t *value, size_t length, dm_octets *purposes, dm_fault *fault);
@@ -759,12 +911,12 @@ uint32_t dm_read_subject_key_identifier(const uint8_t *value, size_t length, dm_
 /* AuthorityKeyIdentifier. An absent field is empty. */
 typedef struct dm_authority_key_identifier {
     dm_octets key_identifier;
-    dm_octets issuer;        /* general names: dm_next_general_name */
-    dm_octets serial_number; /* the content octets of the INTEGER, in two's complement */
+    dm_octets issuer;            /* general names: dm_next_general_name */
+    dm_octets serial_number;     /* the content octets of the INTEGER, in two's complement */
     uint32_t has_key_identifier; /* 0 or 1 */
     uint32_t has_issuer;         /* 0 or 1 */
     uint32_t has_serial_number;  /* 0 or 1 */
-    uint32_t reserved;       /* 0 */
+    uint32_t reserved;           /* 0 */
 } dm_authority_key_identifier;
 
 uint32_t dm_read_authority_key_identifier(const uint8_t *value, size_t length, dm_authority_key_identifier *identifier,
@@ -817,7 +969,7 @@ uint32_t dm_next_subtree(dm_octets *subtrees, dm_subtree *subtree);
 
 /* AuthorityInfoAccess or SubjectInfoAccess (4.2.2): at least one description. */
 typedef struct dm_access_description {
-    dm_octets method;         /* the content octets of the OBJECT IDENTIFIER */
+    dm_octets method; /* the content octets of the OBJECT IDENTIFIER */
     dm_general_name location;
 } dm_access_description;
 
@@ -898,17 +1050,17 @@ uint32_t dm_read_organization_identifier(const uint8_t *value, size_t length, dm
 
 /* A CRL (RFC 5280 5.1). */
 typedef struct dm_certificate_list {
-    dm_octets tbs;            /* the encoding of TBSCertList: the octets that are signed */
-    dm_algorithm signature;   /* the algorithm that is signed with the rest */
-    dm_octets issuer;         /* the relative names: dm_next_relative_name */
-    dm_octets revoked;        /* dm_next_revoked. Empty if there are none */
-    dm_octets extensions;     /* dm_next_extension. Empty if there are none */
+    dm_octets tbs;           /* the encoding of TBSCertList: the octets that are signed */
+    dm_algorithm signature;  /* the algorithm that is signed with the rest */
+    dm_octets issuer;        /* the relative names: dm_next_relative_name */
+    dm_octets revoked;       /* dm_next_revoked. Empty if there are none */
+    dm_octets extensions;    /* dm_next_extension. Empty if there are none */
     dm_algorithm signature_algorithm;
-    dm_bits signature_value;  /* it isn't verified */
+    dm_bits signature_value; /* it isn't verified */
     dm_moment this_update;
-    dm_moment next_update;    /* number 0 if it is absent */
-    uint32_t version;         /* 1 or 2 */
-    uint32_t has_revoked;     /* 1 if revokedCertificates is present, else 0 */
+    dm_moment next_update;   /* number 0 if it is absent */
+    uint32_t version;        /* 1 or 2 */
+    uint32_t has_revoked;    /* 1 if revokedCertificates is present, else 0 */
 } dm_certificate_list;
 
 /* Reads a CRL, as dm_read_certificate reads a certificate. */
@@ -927,17 +1079,18 @@ uint32_t dm_next_revoked(dm_octets *revoked, dm_revoked *entry);
 /* DM_REASON_CODE of an entry (5.3.1): one of enum dm_reason. Any other number is an error. */
 uint32_t dm_read_reason(const uint8_t *value, size_t length, uint32_t *reason, dm_fault *fault);
 
+/* Why a certificate is revoked (RFC 5280 5.3.1). */
 enum dm_reason {
-    DM_REASON_UNSPECIFIED = 0,
-    DM_REASON_KEY_COMPROMISE = 1,
-    DM_REASON_CA_COMPROMISE = 2,
-    DM_REASON_AFFILIATION_CHANGED = 3,
-    DM_REASON_SUPERSEDED = 4,
-    DM_REASON_CESSATION_OF_OPERATION = 5,
-    DM_REASON_CERTIFICATE_HOLD = 6,
-    DM_REASON_REMOVE_FROM_CRL = 8,
-    DM_REASON_PRIVILEGE_WITHDRAWN = 9,
-    DM_REASON_AA_COMPROMISE = 10
+    DM_REASON_UNSPECIFIED = 0,            /* unspecified */
+    DM_REASON_KEY_COMPROMISE = 1,         /* keyCompromise */
+    DM_REASON_CA_COMPROMISE = 2,          /* cACompromise */
+    DM_REASON_AFFILIATION_CHANGED = 3,    /* affiliationChanged */
+    DM_REASON_SUPERSEDED = 4,             /* superseded */
+    DM_REASON_CESSATION_OF_OPERATION = 5, /* cessationOfOperation */
+    DM_REASON_CERTIFICATE_HOLD = 6,       /* certificateHold */
+    DM_REASON_REMOVE_FROM_CRL = 8,        /* removeFromCRL */
+    DM_REASON_PRIVILEGE_WITHDRAWN = 9,    /* privilegeWithdrawn */
+    DM_REASON_AA_COMPROMISE = 10          /* aACompromise */
 };
 
 /* DM_INVALIDITY_DATE of an entry (5.3.2): when its key became invalid. It may have a fraction of a second. */
@@ -948,12 +1101,12 @@ uint32_t dm_read_crl_number(const uint8_t *value, size_t length, dm_octets *numb
 
 /* Which certificates a CRL is about (5.2.5). No field, or fields that exclude each other, are accepted. */
 typedef struct dm_issuing_distribution_point {
-    dm_octets full_name;               /* general names: dm_next_general_name. Empty if there are none */
-    dm_octets relative_name;           /* dm_next_attribute. Empty if there is none */
-    dm_bits reasons;                   /* as in dm_distribution_point */
-    uint32_t only_contains_user_certs; /* 0 or 1: only end entities */
-    uint32_t only_contains_ca_certs;   /* 0 or 1: only CAs */
-    uint32_t indirect_crl;             /* 0 or 1: other issuers too */
+    dm_octets full_name;                    /* general names: dm_next_general_name. Empty if there are none */
+    dm_octets relative_name;                /* dm_next_attribute. Empty if there is none */
+    dm_bits reasons;                        /* as in dm_distribution_point */
+    uint32_t only_contains_user_certs;      /* 0 or 1: only end entities */
+    uint32_t only_contains_ca_certs;        /* 0 or 1: only CAs */
+    uint32_t indirect_crl;                  /* 0 or 1: other issuers too */
     uint32_t only_contains_attribute_certs; /* 0 or 1: only attribute certificates */
 } dm_issuing_distribution_point;
 
@@ -1087,6 +1240,85 @@ typedef struct dm_rsa_public_key {
 
 uint32_t dm_read_rsa_public_key(const uint8_t *input, size_t length, dm_rsa_public_key *key, dm_fault *fault);
 
+/* The types of public keys. */
+enum dm_key_type {
+    DM_KEY_OTHER = 0,   /* another type */
+    DM_KEY_RSA = 1,     /* RSA (RFC 8017 A.1) */
+    DM_KEY_RSA_PSS = 2, /* RSASSA-PSS (RFC 8017 A.2.3) */
+    DM_KEY_EC = 3,      /* elliptic curves (RFC 5480 2.1.1) */
+    DM_KEY_ED25519 = 4, /* RFC 8410 3 */
+    DM_KEY_ED448 = 5,   /* RFC 8410 3 */
+    DM_KEY_X25519 = 6,  /* RFC 8410 3 */
+    DM_KEY_X448 = 7,    /* RFC 8410 3 */
+    DM_KEY_DSA = 8,     /* RFC 3279 2.3.2 */
+    DM_KEY_DH = 9       /* Diffie-Hellman (RFC 3279 2.3.3, PKCS #3) */
+};
+
+/* The curves of keys of type DM_KEY_EC (RFC 5480 2.1.1.1, SEC 2, RFC 5639). */
+enum dm_curve {
+    DM_CURVE_OTHER = 0,             /* another curve, or none */
+    DM_CURVE_SECP192R1 = 1,         /* secp192r1 */
+    DM_CURVE_SECP224R1 = 2,         /* secp224r1 */
+    DM_CURVE_SECP256R1 = 3,         /* secp256r1 */
+    DM_CURVE_SECP384R1 = 4,         /* secp384r1 */
+    DM_CURVE_SECP521R1 = 5,         /* secp521r1 */
+    DM_CURVE_SECP256K1 = 6,         /* secp256k1 */
+    DM_CURVE_SECT163K1 = 7,         /* sect163k1 */
+    DM_CURVE_SECT163R2 = 8,         /* sect163r2 */
+    DM_CURVE_SECT233K1 = 9,         /* sect233k1 */
+    DM_CURVE_SECT233R1 = 10,        /* sect233r1 */
+    DM_CURVE_SECT283K1 = 11,        /* sect283k1 */
+    DM_CURVE_SECT283R1 = 12,        /* sect283r1 */
+    DM_CURVE_SECT409K1 = 13,        /* sect409k1 */
+    DM_CURVE_SECT409R1 = 14,        /* sect409r1 */
+    DM_CURVE_SECT571K1 = 15,        /* sect571k1 */
+    DM_CURVE_SECT571R1 = 16,        /* sect571r1 */
+    DM_CURVE_BRAINPOOL_P256R1 = 17, /* brainpoolP256r1 */
+    DM_CURVE_BRAINPOOL_P384R1 = 18, /* brainpoolP384r1 */
+    DM_CURVE_BRAINPOOL_P512R1 = 19  /* brainpoolP512r1 */
+};
+
+/* The name of a curve as a string of C; "" for DM_CURVE_OTHER and other numbers. */
+static inline const char *dm_curve_string(uint32_t curve) {
+    switch (curve) {
+    case DM_CURVE_SECP192R1: return "secp192r1";
+    case DM_CURVE_SECP224R1: return "secp224r1";
+    case DM_CURVE_SECP256R1: return "secp256r1";
+    case DM_CURVE_SECP384R1: return "secp384r1";
+    case DM_CURVE_SECP521R1: return "secp521r1";
+    case DM_CURVE_SECP256K1: return "secp256k1";
+    case DM_CURVE_SECT163K1: return "sect163k1";
+    case DM_CURVE_SECT163R2: return "sect163r2";
+    case DM_CURVE_SECT233K1: return "sect233k1";
+    case DM_CURVE_SECT233R1: return "sect233r1";
+    case DM_CURVE_SECT283K1: return "sect283k1";
+    case DM_CURVE_SECT283R1: return "sect283r1";
+    case DM_CURVE_SECT409K1: return "sect409k1";
+    case DM_CURVE_SECT409R1: return "sect409r1";
+    case DM_CURVE_SECT571K1: return "sect571k1";
+    case DM_CURVE_SECT571R1: return "sect571r1";
+    case DM_CURVE_BRAINPOOL_P256R1: return "brainpoolP256r1";
+    case DM_CURVE_BRAINPOOL_P384R1: return "brainpoolP384r1";
+    case DM_CURVE_BRAINPOOL_P512R1: return "brainpoolP512r1";
+    default: return "";
+    }
+}
+
+/* What a public key is. */
+typedef struct dm_key_kind {
+    uint32_t key_type; /* one of enum dm_key_type */
+    uint32_t curve;    /* one of enum dm_curve */
+    uint32_t bits;     /* the size: of the modulus, of the prime of DSA and DH, or of the curve's field. 0 if it is
+                        * unknown */
+} dm_key_kind;
+
+/* Writes what the key of a certificate or a request is, and returns its type. Parameters and keys that can't be read
+ * have the size 0. */
+uint32_t dm_key_type(const dm_algorithm *algorithm, const dm_bits *key, dm_key_kind *kind);
+
+/* The same of a public key by itself. */
+uint32_t dm_public_key_type(const dm_public_key *key, dm_key_kind *kind);
+
 /* Blocks of PEM (RFC 7468), with any text around them:
  *
  *     dm_octets text = {file, length};
@@ -1111,6 +1343,11 @@ uint32_t dm_next_pem(dm_octets *text, uint8_t *characters, size_t room, uint8_t 
 
 /* Writes the offset of the first block and returns 1. If there is none, returns 0 and writes nothing. */
 uint32_t dm_find_pem(const uint8_t *text, size_t length, size_t *offset);
+
+/* Writes the octets of an input of DER or PEM to a buffer: those of the first block of PEM, or the input as it is if it
+ * isn't PEM. `size` is how many there are, 0 after an error. Returns 0 or the error. A capacity of twice the input's
+ * length always suffices. Also an input that is neither is copied: the call that reads it says what is wrong. */
+uint32_t dm_decode_input(const uint8_t *input, size_t length, uint8_t *octets, size_t room, size_t *size);
 
 /* The SHA-256 digest (FIPS 180-4), such as a certificate's fingerprint. */
 typedef struct dm_digest {
@@ -1147,9 +1384,14 @@ static inline dm_cursor dm_cursor_over(const uint8_t *input, size_t length, uint
 }
 
 /* The next element has this implicit tag instead of its type's (8.14.3). After an error the tag is still pending. */
-static inline void dm_expect_implicit(dm_cursor *cursor, uint32_t tag_class, uint32_t number) {
+static inline void dm_next_implicit(dm_cursor *cursor, uint32_t tag_class, uint32_t number) {
     cursor->implicit = 1 + tag_class;
     cursor->number = number;
+}
+
+/* Returns 1 if nothing is left, else 0. */
+static inline uint32_t dm_is_empty(const dm_cursor *cursor) {
+    return cursor->left.length == 0;
 }
 
 /* Returns 1 if an element of this class and tag number is next, else 0: for optional fields. */
@@ -1174,6 +1416,10 @@ uint32_t dm_next_bits(dm_cursor *cursor, dm_bits *bits, dm_fault *fault);
 uint32_t dm_next_null(dm_cursor *cursor, dm_fault *fault);
 uint32_t dm_next_utc_time(dm_cursor *cursor, dm_time *time, dm_fault *fault);
 uint32_t dm_next_generalized_time(dm_cursor *cursor, dm_time *time, dm_fault *fault);
+
+/* The same for a text of the string type with this tag number, such as DM_UTF8_STRING: one of dm_check_text but 30.
+ * Another number is DM_ERROR_WRONG_TYPE. */
+uint32_t dm_next_text(dm_cursor *cursor, uint32_t number, dm_octets *text, dm_fault *fault);
 
 /* Read the next element, a SEQUENCE (8.9) or a SET (8.11), into a cursor over its items. dm_next_content takes any
  * class, constructed bit and tag number, such as an explicit tag (8.14.2) or a string type, and doesn't check the

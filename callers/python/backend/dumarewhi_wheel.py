@@ -19,7 +19,6 @@ from typing import Dict, Iterator, List, Optional
 PACKAGE = Path(__file__).resolve().parent.parent
 CALLERS = PACKAGE.parent
 SOURCES = PACKAGE / "src" / "dumarewhi"
-HEADER = CALLERS / "c" / "include" / "dumarewhi.h"
 ARCHIVE = "libdumarewhi_c.a"
 # Sections of README for those who have the repository
 OF_REPOSITORY = ("Install it", "Test it")
@@ -39,7 +38,6 @@ def build_wheel(
     info = f"dumarewhi-{version}.dist-info"
     files = {f"dumarewhi/{path.name}": path.read_bytes() for path in sorted(SOURCES.glob("*.py"))}
     files["dumarewhi/py.typed"] = (SOURCES / "py.typed").read_bytes()
-    files["dumarewhi/_header.py"] = module_of(HEADER.read_text()).encode()
     files["dumarewhi/libdumarewhi.so"] = library
     files[f"{info}/METADATA"] = _metadata(version).encode()
     lines = ["Wheel-Version: 1.0", "Generator: dumarewhi", "Root-Is-Purelib: false", f"Tag: {tag}", ""]
@@ -53,36 +51,6 @@ def build_wheel(
 def build_sdist(sdist_directory: str, config_settings: Optional[Dict[str, str]] = None) -> str:
     """The hook of PEP 517. There is no source distribution: the archive is built of the repository."""
     raise NotImplementedError("build a wheel: there is no source distribution")
-
-
-def module_of(header: str) -> str:
-    """The module with the numbers of the header of C."""
-    depth = re.findall(r"^#define DM_MAX_DEPTH (\d+)$", header, re.MULTILINE)
-    rules = re.findall(r"^ *DM_ERROR_(\w+) = (\d+)", header, re.MULTILINE)
-    fields = re.findall(r"^ *DM_FIELD_(\w+) = (\d+)", header, re.MULTILINE)
-    if len(depth) != 1 or not rules or not fields:
-        raise ValueError("the header has no numbers")
-    lines = [
-        '"""Numbers of dumarewhi.h, from which this module is made."""',
-        "import enum",
-        "",
-        f"MAX_DEPTH = {depth[0]}",
-        '"""The largest value of ``max_depth``. Larger ones are taken as this one."""',
-        "",
-        "",
-        "class Rule(enum.IntEnum):",
-        '    """The number of an error: the rule that an input breaks. ``rule_text`` returns its text."""',
-        "",
-        *(f"    {name} = {number}" for name, number in rules),
-        "",
-        "",
-        "class Field(enum.IntEnum):",
-        '    """A field of a certificate (RFC 5280 4.1), a list of revoked certificates (5.1), a request (RFC 2986 4)',
-        '    or a private key (RFC 5958 2, RFC 8017 A.1.2)."""',
-        "",
-        *(f"    {name} = {number}" for name, number in fields),
-    ]
-    return "\n".join(lines) + "\n"
 
 
 def _version() -> str:

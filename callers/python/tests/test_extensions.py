@@ -414,7 +414,7 @@ def test_rows_of_reasons() -> None:
             try:
                 words.append("no reason" if entry.reason is None else f"reason {int(entry.reason)}")
             except CertificateError as error:
-                words.append(f"refused {error.reason.partition(', found ')[0]}")
+                words.append(f"refused {error.text.partition(', found ')[0]}")
         # The text of a rule may have values after it.
         assert row.expected.startswith(" ".join(words)), row
         compared += 1
@@ -460,7 +460,7 @@ def test_cut_values() -> None:
                 with pytest.raises(CertificateError) as caught:
                     read(octets[:end])
                 error = caught.value
-                assert error.incomplete and (error.rule, error.list_end) == (0, None), row
+                assert error.incomplete and (error.reason, error.list_end) == (0, None), row
                 assert error.needed is not None and end + error.needed <= len(octets)
                 cut += 1
     assert cut > 300
@@ -481,3 +481,33 @@ def test_usage_without_a_name() -> None:
     """Bit 10, which RFC 5280 doesn't name."""
     assert _extensions.read_key_usage(octets_of("03 03 05 00 20")) == x509.KeyUsage(0)
     assert _extensions.read_key_usage(octets_of("03 03 05 80 20")) == x509.KeyUsage.DIGITAL_SIGNATURE
+
+
+def test_values_by_type(tmp_path: Path) -> None:
+    key, file = tmp_path / "key", tmp_path / "certificate"
+    values = ["subjectAltName=DNS:a.example,IP:192.0.2.1,DNS:b.example", "extendedKeyUsage=serverAuth"]
+    values += ["basicConstraints=CA:TRUE,pathlen:3", "keyUsage=keyCertSign,cRLSign", "subjectKeyIdentifier=hash"]
+    values += ["authorityKeyIdentifier=keyid:always"]
+    words = [word for value in values for word in ("-addext", value)]
+    configuration = tmp_path / "configuration"
+    configuration.write_text("[req]\ndistinguished_name = name\n[name]\n")
+    words += ["-config", str(configuration)]
+    openssl("req", "-x509", "-newkey", "ed25519", "-nodes", "-keyout", key, "-out", file, "-subj", "/CN=a", *words)
+    it = Certificate.from_der(openssl("x509", "-in", file, "-outform", "DER"))
+    assert [str(name) for name in it.subject_alt_name or ()] == ["DNS:a.example", "IP:192.0.2.1", "DNS:b.example"]
+    assert it.dns_names == ("a.example", "b.example")
+    second = datetime.timedelta(seconds=1)
+    times = [it.not_before - second, it.not_before, it.not_after, it.not_after + second]
+    assert [it.is_valid_at(time) for time in times] == [False, True, True, False] and it.is_valid_now()
+    assert it.is_valid_at(it.not_after + second / 2) and not it.is_valid_at(it.not_before - second / 2)
+    with pytest.raises(ValueError, match="before 1970"):
+        it.is_valid_at(datetime.datetime(1969, 12, 31, tzinfo=datetime.timezone.utc))
+    assert it.basic_constraints == x509.BasicConstraints(True, 3)
+    assert it.key_usage == x509.KeyUsage.KEY_CERT_SIGN | x509.KeyUsage.CRL_SIGN
+    assert it.extended_key_usage == (ObjectIdentifier("1.3.6.1.5.5.7.3.1"),)
+    assert it.authority_key_identifier is not None and it.subject_key_identifier is not None
+    assert it.authority_key_identifier.key_identifier == it.subject_key_identifier
+    assert it.get(x509.NAME_CONSTRAINTS) is None and it.get(x509.KEY_USAGE) == it.key_usage
+    plain = Certificate.from_der((REPOSITORY / "crates" / "der" / "data" / "certificate.der").read_bytes())
+    assert (plain.get(x509.CRL_NUMBER), plain.get(x509.REASON_CODE)) == (None, None)
+    assert str(GeneralName(GeneralNameKind.DNS_NAME, "a\nDNS: b\u202e")) == "DNS:a\\nDNS: b\\u202e"

@@ -6,10 +6,10 @@ from pathlib import Path
 from typing import Callable, Dict, List
 
 import pytest
-from conftest import DATA, inputs_of, is_text_of, openssl
+from conftest import DATA, REPOSITORY, inputs_of, is_text_of, openssl
 from test_x509 import damaged
 
-from dumarewhi import BitString, ObjectIdentifier, Reader, Rule, Tag, parse_der, pem
+from dumarewhi import BitString, ObjectIdentifier, Reader, Reason, Tag, parse_der, pem
 from dumarewhi.x509 import (
     AnyElement,
     CertificateError,
@@ -44,6 +44,19 @@ def of_cryptography(octets: bytes) -> object:
     return serialization.load_der_private_key(octets, None)
 
 
+def test_kinds() -> None:
+    """The rows that C has."""
+    rows = (REPOSITORY / "callers/c/keys.rows").read_text().splitlines()
+    for row in rows:
+        if row.startswith("#"):
+            continue
+        kind, curve, bits, octets = row.split()
+        key = SubjectPublicKeyInfo.from_der(bytes.fromhex(octets))
+        own = "-" if key.curve is None else key.curve.name.lower().replace("_", "")
+        assert (key.key_type.name, own, key.key_size or 0) == (kind, curve.lower(), int(bits))
+    assert len(rows) > 40
+
+
 def test_rsa() -> None:
     octets = plain(generated(*RSA))
     key = PrivateKey.from_der(octets)
@@ -71,10 +84,10 @@ def test_elliptic_curve() -> None:
     assert (key.version, str(key.algorithm)) == (0, "1.2.840.10045.2.1")
     assert key.parameters is not None and key.parameters.tag == Tag.OBJECT_IDENTIFIER
     assert str(ObjectIdentifier.from_content(key.parameters.content)) == "1.2.840.10045.3.1.7"
-    with Reader(key.private_key) as reader, reader.sequence() as fields:
-        version, secret = fields.integer(), fields.octet_string()
-        fields.optional_explicit(0, Reader.oid)
-        point = fields.optional_explicit(1, Reader.bit_string)
+    with Reader(key.private_key) as reader, reader.open_sequence() as fields:
+        version, secret = fields.integer(), fields.octets()
+        fields.optional_tagged(0, Reader.oid)
+        point = fields.optional_tagged(1, Reader.bits)
     numbers = of_cryptography(octets).private_numbers()  # type: ignore[attr-defined]
     public = numbers.public_numbers
     assert (version, int.from_bytes(secret, "big")) == (1, numbers.private_value)
@@ -169,7 +182,7 @@ def test_encrypted() -> None:
     with pytest.raises(CertificateError) as caught:
         PrivateKey.from_der(octets)
     error = caught.value
-    assert (error.field, error.incomplete) == (Field.KEY_VERSION, False) and error.rule == Rule.UNEXPECTED_TAG
+    assert (error.field, error.incomplete) == (Field.KEY_VERSION, False) and error.reason == Reason.UNEXPECTED_TAG
     assert str(error).startswith("version at ")
     key = EncryptedPrivateKey.from_der(octets)
     assert str(key.algorithm) == "1.2.840.113549.1.5.13"  # PBES2 (RFC 8018 A.4)
@@ -187,7 +200,7 @@ def test_cut_keys() -> None:
         with pytest.raises(CertificateError) as caught:
             PrivateKey.from_der(octets[:end])
         error = caught.value
-        assert (error.incomplete, error.field, error.rule) == (True, Field.KEY, 0)
+        assert (error.incomplete, error.field, error.reason) == (True, Field.KEY, 0)
         assert error.needed is not None and end + error.needed <= len(octets)
     with pytest.raises(CertificateError) as caught:
         PrivateKey.from_der(octets + b"\0")

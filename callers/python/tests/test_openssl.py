@@ -67,37 +67,37 @@ class Fields:
     """Fields of a certificate (RFC 5280 4.1)."""
 
     def __init__(self, octets: bytes) -> None:
-        with Reader(octets) as reader, reader.sequence() as certificate:
-            with certificate.sequence() as fields:
-                self.version = fields.optional_explicit(0, Reader.integer, 0) + 1
+        with Reader(octets) as reader, reader.open_sequence() as certificate:
+            with certificate.open_sequence() as fields:
+                self.version = fields.optional_tagged(0, Reader.integer, 0) + 1
                 self.serial = fields.integer()
-                fields.node()
-                fields.node()
-                with fields.sequence() as validity:
+                fields.any()
+                fields.any()
+                with fields.open_sequence() as validity:
                     self.begins, self.ends = validity.time(), validity.time()
-                self.subject = fields.node()
-                with fields.sequence() as key:
-                    with key.sequence() as algorithm:
+                self.subject = fields.any()
+                with fields.open_sequence() as key:
+                    with key.open_sequence() as algorithm:
                         self.key_algorithm = algorithm.oid()
                         algorithm.optional(Tag.NULL, Reader.null)
                         algorithm.optional(Tag.OBJECT_IDENTIFIER, Reader.oid)
-                    key.bit_string()
+                    key.bits()
                 for number in (1, 2):
-                    fields.optional(number, Reader.node)
-                self.extensions = fields.optional_explicit(3, extensions, [])
-            certificate.node()
-            certificate.bit_string()
+                    fields.optional(number, Reader.any)
+                self.extensions = fields.optional_tagged(3, extensions, [])
+            certificate.any()
+            certificate.bits()
 
 
 def extensions(reader: Reader) -> List[ObjectIdentifier]:
     """Extensions ::= SEQUENCE OF Extension. Returns their kinds."""
     kinds = []
-    with reader.sequence() as r:
-        while not r.at_end:
-            with r.sequence() as extension:
+    with reader.open_sequence() as r:
+        while not r.is_empty:
+            with r.open_sequence() as extension:
                 kinds.append(extension.oid())
                 extension.optional(Tag.BOOLEAN, Reader.boolean, False)
-                parse_der(extension.octet_string())
+                parse_der(extension.octets())
     return kinds
 
 
@@ -117,14 +117,14 @@ def test_fields_of_certificates() -> None:
 @pytest.mark.parametrize("text", ["1.2.840.113549.1.1.11", "2.999.3", "2.25.329800735698586629295641978511506172918"])
 def test_identifiers(text: str) -> None:
     w = Writer()
-    w.oid(text)
-    assert openssl("asn1parse", "-inform", "DER", octets=w.to_bytes()).count("OBJECT") == 1
+    w.put_oid(text)
+    assert openssl("asn1parse", "-inform", "DER", octets=w.finish()).count("OBJECT") == 1
     generated = subprocess.run(
         [tool("openssl"), "asn1parse", "-genstr", f"OID:{text}", "-noout", "-out", "/dev/stdout"],
         check=True,
         capture_output=True,
     )
-    assert generated.stdout == w.to_bytes()
+    assert generated.stdout == w.finish()
 
 
 @pytest.mark.parametrize(

@@ -62,17 +62,17 @@ def test_pyasn1() -> None:
 def test_pyasn1_reads_what_is_written() -> None:
     decoder = pytest.importorskip("pyasn1.codec.der.decoder", reason="there is no pyasn1")
     w = Writer()
-    with w.sequence():
+    with w.open_sequence():
         for number in (0, -1, 1 << 100, -(1 << 100)):
-            w.integer(number)
-        w.oid((2, 999, 1 << 80))
-        w.bit_string(BitString(b"\xf0", 4))
-        w.octet_string(b"ab")
-        w.null()
-        w.boolean(True)
-        w.utf8_string("é")
-    value, rest = decoder.decode(w.to_bytes())
-    assert not rest and list(leaves_of_pyasn1(value)) == list(leaves(parse_der(w.to_bytes()).root))
+            w.put_integer(number)
+        w.put_oid((2, 999, 1 << 80))
+        w.put_bits(BitString(b"\xf0", 4))
+        w.put_octets(b"ab")
+        w.put_null()
+        w.put_bool(True)
+        w.put_utf8("é")
+    value, rest = decoder.decode(w.finish())
+    assert not rest and list(leaves_of_pyasn1(value)) == list(leaves(parse_der(w.finish()).root))
 
 
 def test_asn1crypto() -> None:

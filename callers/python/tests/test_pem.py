@@ -11,13 +11,13 @@ from typing import List, Tuple, Union
 import pytest
 from conftest import CERTIFICATES, openssl
 
-from dumarewhi import DerError, Rule, pem
+from dumarewhi import DerError, Reason, pem
 from dumarewhi.x509 import Certificate, PrivateKey
 
 # The octets 05 00 are BQA= (RFC 4648 4).
 NULL = "-----BEGIN A NULL-----\nBQA=\n-----END A NULL-----\n"
 
-Found = Union[Tuple[str, int, bytes], Tuple[Rule, int]]
+Found = Union[Tuple[str, int, bytes], Tuple[Reason, int]]
 
 
 def found(text: str) -> List[Found]:
@@ -30,11 +30,21 @@ def found(text: str) -> List[Found]:
         except StopIteration:
             return items
         except DerError as error:
-            items.append((Rule(error.rule), error.offset))
+            items.append((Reason(error.reason), error.offset))
 
 
 def null(offset: int) -> Found:
     return "A NULL", offset, b"\5\0"
+
+
+def test_decode_input() -> None:
+    text = b"a text\n" + NULL.encode() + b"-----BEGIN B-----\nAQH/\n-----END B-----\n"
+    assert pem.decode_input(text, "B") == b"\1\1\xff" == pem.decode_input(text.decode(), "B")
+    # What is DER stays as it is, also with a text of PEM inside, and so does what has no block.
+    inside = bytes([0x0C, len(text)]) + text
+    assert [pem.decode_input(it, "B") for it in (inside, b"no block", b"")] == [inside, b"no block", b""]
+    with pytest.raises(DerError, match="no block has the label CERTIFICATE"):
+        pem.decode_input(text, "CERTIFICATE")
 
 
 def test_blocks_and_text_around_them() -> None:
@@ -51,14 +61,14 @@ def test_blocks_and_text_around_them() -> None:
 def test_errors() -> None:
     """A block that can't be decoded is followed by others. One that has no end is the last one."""
     wrong = NULL.replace("BQA=", "BQ!=")
-    assert found(wrong + NULL) == [(Rule.PEM_BASE64, 0), null(len(wrong))]
+    assert found(wrong + NULL) == [(Reason.PEM_BASE64, 0), null(len(wrong))]
     headers = "Proc-Type: 4,ENCRYPTED\nDEK-Info: DES-CBC,0011223344556677\n\nBQA="
     encrypted = NULL.replace("BQA=", headers)
-    assert found(encrypted + NULL) == [(Rule.PEM_ENCRYPTED, 0), null(len(encrypted))]
+    assert found(encrypted + NULL) == [(Reason.PEM_ENCRYPTED, 0), null(len(encrypted))]
     other = NULL.replace("END A NULL", "END NULL")
-    assert found(f"\n{other}{NULL}") == [(Rule.PEM_LABELS_DIFFER, 1)]
+    assert found(f"\n{other}{NULL}") == [(Reason.PEM_LABELS_DIFFER, 1)]
     for end in range(23, len(NULL) - 1):
-        assert found(NULL[:end]) == [(Rule.PEM_NO_END, 0)], end
+        assert found(NULL[:end]) == [(Reason.PEM_NO_END, 0)], end
     blocks = pem.blocks(wrong)
     with pytest.raises(DerError) as caught:
         next(blocks)
@@ -120,7 +130,7 @@ def test_bundle_of_openssl(tmp_path: Path) -> None:
     assert third.octets == base64.b64decode(b"".join(encrypted.splitlines()[1:-1]))
     with pytest.raises(DerError) as caught:
         next(blocks)
-    assert (caught.value.rule, caught.value.offset) == (Rule.PEM_ENCRYPTED, len(b"".join(texts[:4])))
+    assert (caught.value.reason, caught.value.offset) == (Reason.PEM_ENCRYPTED, len(b"".join(texts[:4])))
     assert next(blocks).octets == der and next(blocks, None) is None
     assert PrivateKey.from_der(second.octets).algorithm == Certificate.from_der(der).public_key.algorithm.identifier
 
@@ -138,5 +148,5 @@ def test_damaged_texts() -> None:
         whole = "".join(text)
         offsets = [item[1] for item in found(whole)]
         assert offsets == sorted(set(offsets)) and all(0 <= at < len(whole.encode()) for at in offsets)
-        rules.update(item[0] for item in found(whole) if isinstance(item[0], Rule))
-    assert rules == {Rule.PEM_BASE64, Rule.PEM_NO_END, Rule.PEM_LABELS_DIFFER}
+        rules.update(item[0] for item in found(whole) if isinstance(item[0], Reason))
+    assert rules == {Reason.PEM_BASE64, Reason.PEM_NO_END, Reason.PEM_LABELS_DIFFER}

@@ -29,12 +29,19 @@ def function(name: str) -> Any:
     return names[name]
 
 
-def test_hosts(tmp_path: Path) -> None:
+def test_names(tmp_path: Path, capsys: pytest.CaptureFixture[str]) -> None:
     key, file = tmp_path / "key", tmp_path / "certificate"
     words = ["-subj", "/CN=a", "-addext", "subjectAltName=DNS:a.example,IP:192.0.2.1,DNS:b.example"]
     openssl("req", "-x509", "-newkey", "ed25519", "-nodes", "-keyout", key, "-out", file, *words)
+    der = tmp_path / "der"
+    der.write_bytes(openssl("x509", "-in", file, "-outform", "DER"))
     file.write_bytes(b"a text\n" + 2 * file.read_bytes())
-    assert list(function("hosts")(file)) == 2 * ["a.example", "b.example"]
+    assert function("hosts")(file) == 2 * ["a.example", "b.example"]
+    shown = []
+    for name in (der, file):
+        function("show")(name)
+        shown.append(capsys.readouterr().out.splitlines())
+    assert shown[0] == shown[1] == ["valid now: True", "DNS:a.example IP:192.0.2.1 DNS:b.example"]
 
 
 def test_secret() -> None:

@@ -8,7 +8,7 @@ from typing import Callable, Iterator, List, Tuple
 import pytest
 from conftest import Outcome, Row, octets_of, rows
 
-from dumarewhi import DerError, Incomplete, Node, Tag, TagClass, Tree, parse_ber, parse_der
+from dumarewhi import DerError, Incomplete, Node, Tag, Class, Tree, parse_ber, parse_der
 
 READER = re.compile(r"(?:(header)((?: \d+)*) of )?parse_(der|ber)(?:_recursive (\d+))?")
 
@@ -22,10 +22,10 @@ TYPES = {
 }  # fmt: skip
 
 CLASSES = {
-    "universal": TagClass.UNIVERSAL,
-    "application": TagClass.APPLICATION,
-    "context-specific": TagClass.CONTEXT,
-    "private": TagClass.PRIVATE,
+    "universal": Class.UNIVERSAL,
+    "application": Class.APPLICATION,
+    "context-specific": Class.CONTEXT_SPECIFIC,
+    "private": Class.PRIVATE,
 }
 
 
@@ -143,6 +143,6 @@ def test_rows(lines_of_c: List[Tuple[Reading, str]]) -> None:
         except Incomplete as error:
             assert line == f"missing {error.missing}", reading.row
         except DerError as error:
-            assert line == f"error {error.rule} at {error.offset}", reading.row
+            assert line == f"error {error.reason} at {error.offset}", reading.row
         compared += 1
     assert compared > 250

@@ -25,10 +25,10 @@ def parsed(parse: Callable[..., Tree], octets: bytes, depth: int) -> str:
     try:
         tree = parse(octets, max_depth=depth, allow_trailing=True)
     except Incomplete as error:
-        assert error.offset == len(octets) and error.rule == 0
+        assert error.offset == len(octets) and error.reason == 0
         return f"missing {error.missing}"
     except DerError as error:
-        return f"error {error.rule} at {error.offset}"
+        return f"error {error.reason} at {error.offset}"
     elements = list(listed(tree))
     return f"{len(elements)} elements in {tree.end}: {' '.join(elements)}"
 
@@ -40,7 +40,7 @@ def checked(check: Callable[..., int], octets: bytes, depth: int) -> str:
     except Incomplete as error:
         return f"missing {error.missing}"
     except DerError as error:
-        return f"error {error.rule} at {error.offset}"
+        return f"error {error.reason} at {error.offset}"
 
 
 def written(octets: bytes) -> str:
@@ -49,7 +49,7 @@ def written(octets: bytes) -> str:
     except Incomplete as error:
         return f"missing {error.missing}"
     except DerError as error:
-        return f"error {error.rule} at {error.offset}"
+        return f"error {error.reason} at {error.offset}"
 
 
 @pytest.fixture(scope="module")

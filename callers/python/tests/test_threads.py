@@ -23,10 +23,10 @@ def many_switches() -> Iterator[None]:
 
 def numbers(first: int, count: int) -> bytes:
     w = Writer()
-    with w.sequence():
+    with w.open_sequence():
         for number in range(first, first + count):
-            w.integer(number)
-    return w.to_bytes()
+            w.put_integer(number)
+    return w.finish()
 
 
 def test_short_and_long() -> None:
@@ -58,7 +58,7 @@ def test_errors() -> None:
             try:
                 shown.append(repr(parse_ber(octets).root.value))
             except DerError as error:
-                shown.append(f"{error} {error.rule}")
+                shown.append(f"{error} {error.reason}")
         return shown
 
     expected = outcomes(0)

@@ -8,11 +8,12 @@ import datetime
 import mmap
 import pickle
 import random
+import re
 from pathlib import Path
 from typing import Callable, List, Optional, Tuple
 
 import pytest
-from conftest import octets_of
+from conftest import octets_of, openssl
 
 from dumarewhi import (
     BitString,
@@ -21,10 +22,10 @@ from dumarewhi import (
     Node,
     ObjectIdentifier,
     Reader,
-    Rule,
+    Reason,
     Tag,
-    TagClass,
-    _library,
+    Class,
+    _header,
     check_ber,
     check_der,
     parse_ber,
@@ -45,7 +46,7 @@ def encoded(number: int, content: bytes, constructed: bool = False) -> bytes:
 
 def test_node() -> None:
     root = parse_der(PAIR).root
-    assert (root.tag, root.tag_class, root.number) == (Tag.SEQUENCE, TagClass.UNIVERSAL, 16)
+    assert (root.tag, root.tag_class, root.number) == (Tag.SEQUENCE, Class.UNIVERSAL, 16)
     assert (root.constructed, root.definite, root.depth) == (True, True, 0)
     assert (root.offset, root.header_length, root.content_offset, root.content_end, root.end) == (0, 2, 2, 8, 8)
     assert (root.header, root.content, root.octets) == (PAIR[:2], PAIR[2:], PAIR)
@@ -87,16 +88,16 @@ def test_content_under_tags() -> None:
 def test_content_under_tags_that_is_no_element() -> None:
     with pytest.raises(DerError) as caught:
         parse_der(octets_of("30 06 a0 04 02 01 05 02")).root[0].children
-    assert (caught.value.offset, caught.value.rule) == (7, Rule.OVERRUN)
+    assert (caught.value.offset, caught.value.reason) == (7, Reason.OVERRUN)
     assert not isinstance(caught.value, Incomplete)
 
 
 def test_content_of_strings() -> None:
     assert parse_der(octets_of("30 05 04 03 02 01 05")).root[0].parse_content().root.offset == 4
-    for octets, offset, rule in (("04 04 02 01 05 02", 5, 0), ("04 02 02 01", 2, Rule.OVERRUN)):
+    for octets, offset, rule in (("04 04 02 01 05 02", 5, 0), ("04 02 02 01", 2, Reason.OVERRUN)):
         with pytest.raises(DerError) as caught:
             parse_der(octets_of(octets)).root.parse_content()
-        assert (caught.value.offset, caught.value.rule) == (offset, rule)
+        assert (caught.value.offset, caught.value.reason) == (offset, rule)
 
 
 def test_depth_under_tags() -> None:
@@ -106,7 +107,7 @@ def test_depth_under_tags() -> None:
         deep = b"\xa0" + (bytes((len(deep),)) if len(deep) < 128 else bytes((0x81, len(deep)))) + deep
     with pytest.raises(DerError) as caught:
         list(parse_der(deep).root.walk())
-    assert caught.value.rule == Rule.MAX_DEPTH
+    assert caught.value.reason == Reason.MAX_DEPTH
     assert len(list(parse_der(deep, max_depth=60).root.walk())) == 60
     with pytest.raises(DerError):
         list(parse_der(deep, max_depth=59).root.walk())
@@ -117,7 +118,7 @@ def test_no_depth(max_depth: int) -> None:
     for read in (parse_der, parse_ber, check_der, check_ber):
         with pytest.raises(DerError) as caught:
             read(PAIR, max_depth=max_depth)
-        assert caught.value.rule == Rule.MAX_DEPTH
+        assert caught.value.reason == Reason.MAX_DEPTH
     assert check_der(PAIR, max_depth=1 << 70) == 3
 
 
@@ -128,10 +129,10 @@ def test_errors() -> None:
     with pytest.raises(DerError) as caught:
         parse_der(octets_of("30 03 04 81 00"))
     error = caught.value
-    assert (error.offset, error.rule) == (2, Rule.LENGTH_NOT_MINIMAL) and not isinstance(error, Incomplete)
-    assert isinstance(error, ValueError) and str(error) == f"{error.reason} at offset 2"
+    assert (error.offset, error.reason) == (2, Reason.LENGTH_NOT_MINIMAL) and not isinstance(error, Incomplete)
+    assert isinstance(error, ValueError) and str(error) == f"{error.text} at offset 2"
     again = pickle.loads(pickle.dumps(error))
-    assert (again.reason, again.offset, again.rule) == (error.reason, error.offset, error.rule)
+    assert (again.text, again.offset, again.reason) == (error.text, error.offset, error.reason)
 
 
 @pytest.mark.parametrize(
@@ -142,7 +143,7 @@ def test_incomplete(octets: str, missing: int) -> None:
         with pytest.raises(Incomplete) as caught:
             read(octets_of(octets))
         error = caught.value
-        assert (error.missing, error.offset, error.rule) == (missing, len(octets_of(octets)), 0)
+        assert (error.missing, error.offset, error.reason) == (missing, len(octets_of(octets)), 0)
         assert copy.copy(error).missing == missing and str(missing) in str(error)
 
 
@@ -150,7 +151,7 @@ def test_octets_that_follow() -> None:
     for read in (parse_der, parse_ber, check_der, check_ber):
         with pytest.raises(DerError) as caught:
             read(PAIR + b"\0")
-        assert (caught.value.reason, caught.value.offset, caught.value.rule) == ("octets are left", 8, 0)
+        assert (caught.value.text, caught.value.offset, caught.value.reason) == ("octets are left", 8, 0)
     tree = parse_der(PAIR + b"\0", allow_trailing=True)
     assert tree.end == 8
 
@@ -260,12 +261,21 @@ def test_identifiers(content: str, text: str) -> None:
     assert pickle.loads(pickle.dumps(identifier)) == identifier
 
 
+def test_named_identifiers(tmp_path: Path) -> None:
+    """Each has the octets and, but for signs and case, the name that openssl has."""
+    for name, dotted in _header.OIDS.items():
+        said = openssl("asn1parse", "-genstr", f"OID:{dotted}", "-out", tmp_path / "der").decode().lower()
+        identifier = getattr(ObjectIdentifier, name)
+        assert (str(identifier), identifier.content) == (dotted, (tmp_path / "der").read_bytes()[2:])
+        assert name.replace("_", "").lower() in re.sub("[^a-z0-9]", "", said)
+
+
 def test_identifiers_as_c_reads_them() -> None:
     chance = random.Random(2)
     for _ in range(2000):
         content = bytes(chance.choice((chance.randrange(256), 0x80, 0xFF)) for _ in range(chance.randrange(30)))
         text, needed = ctypes.create_string_buffer(400), ctypes.c_size_t()
-        rule = _library.read_oid(content, len(content), text, 400, ctypes.byref(needed))
+        rule = _header.read_oid(content, len(content), text, 400, ctypes.byref(needed))
         if rule == 0:
             assert str(ObjectIdentifier.from_content(content)) == text.raw[: needed.value].decode()
         elif content[-1:] >= b"\x80":
@@ -338,37 +348,37 @@ def test_bit_strings() -> None:
 @pytest.mark.parametrize(
     "octets, rule",
     [
-        ("03 00", Rule.UNUSED_BITS_MISSING),
-        ("03 01 01", Rule.UNUSED_BITS_OF_NONE),
-        ("03 02 08 00", Rule.UNUSED_BITS_ABOVE_SEVEN),
-        ("03 02 ff 00", Rule.UNUSED_BITS_ABOVE_SEVEN),
+        ("03 00", Reason.UNUSED_BITS_MISSING),
+        ("03 01 01", Reason.UNUSED_BITS_OF_NONE),
+        ("03 02 08 00", Reason.UNUSED_BITS_ABOVE_SEVEN),
+        ("03 02 ff 00", Reason.UNUSED_BITS_ABOVE_SEVEN),
     ],
 )
-def test_unused_bits_that_there_cannot_be(octets: str, rule: Rule) -> None:
+def test_unused_bits_that_there_cannot_be(octets: str, rule: Reason) -> None:
     """X.690 8.6.2, by BER too."""
     with pytest.raises(DerError) as caught:
-        Reader(octets_of(octets), rules="ber").bit_string()
-    assert (caught.value.rule, caught.value.offset) == (rule, 0)
+        Reader(octets_of(octets), rules="ber").bits()
+    assert (caught.value.reason, caught.value.offset) == (rule, 0)
     with pytest.raises(DerError):
-        Reader(b"\x83" + octets_of(octets)[1:], rules="ber").implicit(3, Tag.BIT_STRING)
+        Reader(b"\x83" + octets_of(octets)[1:], rules="ber").implicit(3).bits()
 
 
 @pytest.mark.parametrize("content, rule", [
-    ("", Rule.NUMBER_EMPTY),
-    ("00 01", Rule.NUMBER_PADDED),
-    ("00 7f", Rule.NUMBER_PADDED),
-    ("ff 80", Rule.NUMBER_PADDED),
+    ("", Reason.NUMBER_EMPTY),
+    ("00 01", Reason.NUMBER_PADDED),
+    ("00 7f", Reason.NUMBER_PADDED),
+    ("ff 80", Reason.NUMBER_PADDED),
 ])  # fmt: skip
-def test_needless_octets_of_numbers(content: str, rule: Rule) -> None:
+def test_needless_octets_of_numbers(content: str, rule: Reason) -> None:
     """X.690 8.3.1, 8.3.2 and 8.4, by BER too."""
     octets = octets_of(content)
     after = bytes([len(octets)]) + octets
     for identifier, read in ((b"\x02", Reader.integer), (b"\x0a", Reader.enumerated)):
         with pytest.raises(DerError) as caught:
             read(Reader(identifier + after, rules="ber"))
-        assert (caught.value.rule, caught.value.offset) == (rule, 0)
+        assert (caught.value.reason, caught.value.offset) == (rule, 0)
     with pytest.raises(DerError):
-        Reader(b"\x83" + after, rules="ber").implicit(3, Tag.ENUMERATED)
+        Reader(b"\x83" + after, rules="ber").implicit(3).enumerated()
 
 
 def test_strings_in_parts() -> None:
@@ -406,7 +416,7 @@ def test_times(number: int, text: str, fields: Tuple[int, ...], hours: Optional[
 def test_no_date() -> None:
     with pytest.raises(DerError) as caught:
         parse_ber(encoded(24, b"20200230000000Z")).root.as_datetime()
-    assert caught.value.rule > 0 and caught.value.offset == 0
+    assert caught.value.reason > 0 and caught.value.offset == 0
 
 
 READS: List[Callable[[Node], object]] = [
@@ -446,7 +456,7 @@ def test_values_of_other_types(octets: str, read: object) -> None:
         else:
             with pytest.raises(DerError) as caught:
                 other(node)
-            assert (caught.value.offset, caught.value.rule) == (0, Rule.UNEXPECTED_TAG)
+            assert (caught.value.offset, caught.value.reason) == (0, Reason.UNEXPECTED_TAG)
             assert f"found {node.tag}" in str(caught.value)
 
 
@@ -488,7 +498,7 @@ def test_to_der_that_is_longer() -> None:
 def test_no_der() -> None:
     with pytest.raises(DerError) as caught:
         to_der(octets_of("30 80 05 00 17 0b 39 39 31 32 33 31 32 33 35 39 5a 00 00"))
-    assert caught.value.offset == 4 and caught.value.rule > 0
+    assert caught.value.offset == 4 and caught.value.reason > 0
     with pytest.raises(Incomplete) as incomplete:
         to_der(octets_of("30 80 05 00"))
     assert incomplete.value.missing == 2

@@ -15,11 +15,9 @@ import pytest
 from conftest import DATA, REPOSITORY, TESTS, certificates, change, inputs_of, is_text_of, octets_of, openssl, rows
 from test_extensions import compare_with_cryptography
 
-from dumarewhi import BitString, DerError, ObjectIdentifier, Rule, Tag, Writer, named
-from dumarewhi import _certificate_calls as _calls
-from dumarewhi import _parts, x509
+from dumarewhi import BitString, DerError, ObjectIdentifier, Reason, Tag, Writer, named
+from dumarewhi import _header, _parts, x509
 from dumarewhi._extensions import read_general_names
-from dumarewhi._library import TimeStruct
 from dumarewhi.x509 import (
     Attribute,
     Certificate,
@@ -65,33 +63,33 @@ IDENTIFIERS = {
 def with_extensions(identifiers: List[str], value: bytes) -> bytes:
     """A certificate with these extensions, all of one value."""
     w = Writer()
-    with w.sequence():
-        with w.sequence():
-            with w.tagged(0):
-                w.integer(2)
-            w.integer(5)
-            with w.sequence():
-                w.oid("1.2")
-            with w.sequence():
+    with w.open_sequence():
+        with w.open_sequence():
+            with w.open_tagged(0):
+                w.put_integer(2)
+            w.put_integer(5)
+            with w.open_sequence():
+                w.put_oid("1.2")
+            with w.open_sequence():
                 pass
-            with w.sequence():
+            with w.open_sequence():
                 for year in (2026, 2027):
-                    w.time(datetime.datetime(year, 1, 1, tzinfo=datetime.timezone.utc))
-            with w.sequence():
+                    w.put_time(datetime.datetime(year, 1, 1, tzinfo=datetime.timezone.utc))
+            with w.open_sequence():
                 pass
-            with w.sequence():
-                with w.sequence():
-                    w.oid("1.2")
-                w.bit_string(BitString(b"\1"))
-            with w.tagged(3), w.sequence():
+            with w.open_sequence():
+                with w.open_sequence():
+                    w.put_oid("1.2")
+                w.put_bits(BitString(b"\1"))
+            with w.open_tagged(3), w.open_sequence():
                 for identifier in identifiers:
-                    with w.sequence():
-                        w.oid(identifier)
-                        w.octet_string(value)
-        with w.sequence():
-            w.oid("1.2")
-        w.bit_string(BitString(b"\1"))
-    return w.to_bytes()
+                    with w.open_sequence():
+                        w.put_oid(identifier)
+                        w.put_octets(value)
+        with w.open_sequence():
+            w.put_oid("1.2")
+        w.put_bits(BitString(b"\1"))
+    return w.finish()
 
 
 def sound() -> List[bytes]:
@@ -146,7 +144,7 @@ def shown_time(moment: Tuple[int, ...]) -> str:
 
 
 def shown_error(error: CertificateError) -> str:
-    return f"fault {error.field} {error.offset} {error.rule} {error.needed or 0} ({error})"
+    return f"fault {error.field} {error.offset} {error.reason} {error.needed or 0} ({error})"
 
 
 def shown_tag(tag: Tag) -> str:
@@ -189,7 +187,8 @@ def shown_value(extension: Extension) -> List[str]:
         return [shown_error(error)]
     except DerError:
         # A date that isn't in the calendar.
-        return [shown_time(_parts.moment_of(_parts.read(_calls.read_invalidity_date, TimeStruct(), extension.octets)))]
+        date, _ = _parts.read(_header.read_invalidity_date, _header.TimeFields, extension.octets)
+        return [shown_time(_parts.moment_of(date))]
     if isinstance(value, x509.BasicConstraints):
         return [f"ca {int(value.ca)}", *([] if value.path_length is None else [str(value.path_length)])]
     if isinstance(value, x509.KeyUsage):
@@ -340,6 +339,10 @@ def test_beside_cryptography() -> None:
         assert it.tbs == other.tbs_certificate_bytes and bytes(it.signature_value) == other.signature
         assert str(it.signature_algorithm.identifier) == other.signature_algorithm_oid.dotted_string
         assert it.fingerprint == other.fingerprint(hashes.SHA256())
+        key = other.public_key()
+        assert it.public_key.key_size == key.key_size
+        if hasattr(key, "curve"):
+            assert it.public_key.curve is not None and it.public_key.curve.name.lower() == key.curve.name.lower()
         own = [(str(extension.identifier), extension.critical) for extension in it.extensions]
         assert own == [(extension.oid.dotted_string, extension.critical) for extension in extensions]
         for extension in extensions:
@@ -432,14 +435,29 @@ def test_rows_of_strict_certificates() -> None:
             Certificate.from_der(row.octets, strict=True)
             assert row.expected == "read", row
         except CertificateError as error:
-            assert row.expected == f"read breaks {RULES[error.rule - Rule.ALGORITHMS_DIFFER]}", row
+            assert row.expected == f"read breaks {RULES[error.reason - Reason.ALGORITHMS_DIFFER]}", row
             assert (error.field, error.offset) == (Field.CERTIFICATE, 0)
 
 
+def test_written_names() -> None:
+    """Names as openssl writes them, with _ for a space: in UTF-8, and with the octets of other characters than ASCII in
+    digits."""
+    found = [row for row in rows() if row.call == "written_name" and not row.expected.startswith("at ")]
+    for row in found:
+        begin = 2 + (row.octets[1] & 0x7F if row.octets[1] > 0x7F else 0)
+        name = Name(row.octets[begin:])
+        assert name.utf8.replace(" ", "_") == row.expected
+        octets = (f"\\{octet:02x}" if octet > 0x7F else chr(octet) for octet in name.utf8.encode())
+        assert str(name) == "".join(octets)
+    assert len(found) > 10
+
+
 def test_errors() -> None:
+    with pytest.raises(CertificateError, match="^this is PEM, which dm_decode_input decodes$"):
+        Certificate.from_der(b"-----BEGIN CERTIFICATE-----\n")
     with pytest.raises(CertificateError) as caught:
         Certificate.from_der(b"\x30\x05")
-    assert (caught.value.incomplete, caught.value.needed, caught.value.rule) == (True, 5, 0)
+    assert (caught.value.incomplete, caught.value.needed, caught.value.reason) == (True, 5, 0)
     with pytest.raises(DerError) as other, named("file"):
         Certificate.from_der(memoryview(b"\x30\x02\x30\x00"))
     error = other.value
@@ -464,6 +482,14 @@ def test_certificate_of_the_repository() -> None:
     assert repr(it).startswith("<Certificate of ") and hash(it.subject) == hash(it.subject)
     assert it.subject.get("2.5.4.3") == it.subject.get(ObjectIdentifier("2.5.4.3"))
     assert it.extension("1.2.3") is None
+
+
+def test_repeated_names() -> None:
+    it = Certificate.from_der(with_extensions(2 * ["2.5.29.17"], octets_of("30 03 82 01 61")))
+    with pytest.raises(DerError) as caught:
+        it.dns_names
+    assert caught.value.reason == Reason.EXTENSION_REPEATED
+    assert Certificate.from_der(with_extensions(["2.5.29.18"], octets_of("30 03 82 01 61"))).subject_alt_name is None
 
 
 def test_requests(tmp_path: Path) -> None:

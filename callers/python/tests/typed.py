@@ -6,13 +6,13 @@ import mmap
 from typing import List, Optional, Tuple
 
 import dumarewhi
-from dumarewhi import BitString, Node, ObjectIdentifier, Reader, Tag, TagClass, Tree, Writer, pem, x509
+from dumarewhi import BitString, Node, ObjectIdentifier, Reader, Tag, Class, Tree, Writer, pem, x509
 
 
 def trees(data: bytes, mapped: mmap.mmap) -> Tuple[Tree, Node, List[Node], memoryview]:
     tree = dumarewhi.parse_der(mapped, max_depth=9)
     count: int = dumarewhi.check_ber(memoryview(data)) + dumarewhi.check_der(bytearray(data))
-    found: List[Node] = [child for child in tree.root if child.number == count and child.tag_class == TagClass.PRIVATE]
+    found: List[Node] = [child for child in tree.root if child.number == count and child.tag_class == Class.PRIVATE]
     return tree, tree.root[0], found, tree.root.content
 
 
@@ -36,20 +36,20 @@ def kind(node: Node) -> str:
 
 
 def fields(octets: bytes) -> Tuple[int, Optional[str], bool]:
-    with Reader(octets, rules="ber") as reader, reader.sequence() as r:
-        version: int = r.optional_explicit(0, Reader.integer, 0)
+    with Reader(octets, rules="ber") as reader, reader.open_sequence() as r:
+        version: int = r.optional_tagged(0, Reader.integer, 0)
         name: Optional[str] = r.optional(Tag.UTF8_STRING, Reader.utf8_string)
-        critical: bool = r.explicit(Tag.context(1), lambda inner: inner.boolean())
+        critical: bool = r.tagged(Tag.context(1), lambda inner: inner.boolean())
         return version, name, critical
 
 
 def written(time: datetime.datetime) -> bytes:
     w = Writer()
-    with w.sequence(), w.tagged(Tag.context(0)) as inner:
-        inner.implicit(2).ia5_string("a.b")
-        w.oid("2.5.4.3")
-        w.oid([2, 5])
-        w.time(time)
+    with w.open_sequence(), w.open_tagged(Tag.context(0)) as inner:
+        inner.implicit(2).put_ia5("a.b")
+        w.put_oid("2.5.4.3")
+        w.put_oid([2, 5])
+        w.put_time(time)
     return bytes(w)
 
 
@@ -57,20 +57,24 @@ def errors(octets: bytes) -> Tuple[int, int, str]:
     try:
         dumarewhi.to_der(octets)
     except dumarewhi.Incomplete as error:
-        return error.missing, error.offset, error.reason
+        return error.missing, error.offset, error.text
     except dumarewhi.DerError as error:
-        return error.rule, error.offset, dumarewhi.rule_text(dumarewhi.Rule.MAX_DEPTH)
+        return error.reason, error.offset, dumarewhi.error_text(dumarewhi.Reason.MAX_DEPTH)
     return 0, 0, ""
 
 
 def certificate(octets: bytearray) -> Tuple[int, List[str]]:
     it = x509.Certificate.from_der(octets, strict=True)
     texts: List[str] = [rule.text for rule in it.broken_rules() if rule.is_must]
-    points = it.extension("2.5.29.31")
-    value: x509.ExtensionValue = b"" if points is None else points.value
-    for point in value if isinstance(value, tuple) else ():
-        if isinstance(point, x509.DistributionPoint):
-            texts += [name.value for name in point.full_name if isinstance(name.value, str)]
+    for point in it.get(x509.CRL_DISTRIBUTION_POINTS) or ():
+        texts += [str(name) for name in point.full_name]
+    names: Optional[Tuple[x509.GeneralName, ...]] = it.subject_alt_name
+    texts += [*it.dns_names, *(str(name) for name in names or ())]
+    if it.key_usage is not None and x509.KeyUsage.CRL_SIGN in it.key_usage and it.basic_constraints is not None:
+        assert it.basic_constraints.path_length != 0
+    purposes: Optional[Tuple[ObjectIdentifier, ...]] = it.extended_key_usage
+    key: Optional[bytes] = it.subject_key_identifier
+    assert purposes is None or it.authority_key_identifier is None or it.authority_key_identifier.key_identifier == key
     return it.serial_number, texts
 
 
@@ -85,14 +89,11 @@ def keys(text: str) -> List[Tuple[str, int, Optional[bytes]]]:
 
 def of_lists(octets: bytes) -> Tuple[int, List[str]]:
     it = x509.CertificateList.from_der(octets)
-    found = it.extension("2.5.29.20")
-    value: x509.ExtensionValue = 0 if found is None else found.value
-    assert isinstance(value, int) and not it.has_unknown_critical
-    texts: List[str] = []
-    point = it.extension("2.5.29.28")
-    if point is not None and isinstance(point.value, x509.IssuingDistributionPoint):
-        texts += [name.value for name in point.value.full_name if isinstance(name.value, str)]
-    return value, texts
+    point = it.get(x509.ISSUING_DISTRIBUTION_POINT)
+    other: Optional[x509.Extension] = it.extension("1.2.3")
+    value: object = None if other is None else other.value
+    assert isinstance(value, bytes) and not it.has_unknown_critical
+    return it.get(x509.CRL_NUMBER) or 0, [str(name) for name in (() if point is None else point.full_name)]
 
 
 def public(octets: bytes) -> Tuple[int, int, Optional[bytes]]:

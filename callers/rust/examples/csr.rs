@@ -37,14 +37,14 @@ fn main() -> io::Result<()> {
 ///     attributes [0] IMPLICIT SET OF SEQUENCE { type OBJECT IDENTIFIER, values SET } }
 fn info(key: &[u8], host: &str) -> Result<Vec<u8>> {
     to_vec(|w| {
-        w.sequence(|w| {
-            w.u64(0);
+        w.open_sequence(|w| {
+            w.put_u64(0);
             name(w, host)?;
-            w.elements(key);
-            w.tagged(Tag::context(0), |w| {
-                w.sequence(|w| {
-                    w.oid(EXTENSION_REQUEST)?;
-                    w.set(|w| extensions(w, host))
+            w.put_elements(key);
+            w.open_tagged(Tag::context(0), |w| {
+                w.open_sequence(|w| {
+                    w.put_arcs(EXTENSION_REQUEST)?;
+                    w.open_set(|w| extensions(w, host))
                 })
             })
         })
@@ -53,11 +53,11 @@ fn info(key: &[u8], host: &str) -> Result<Vec<u8>> {
 
 /// Name ::= SEQUENCE OF SET OF SEQUENCE { type OBJECT IDENTIFIER, value }
 fn name(w: &mut Writer<'_>, text: &str) -> Result<()> {
-    w.sequence(|w| {
-        w.set(|w| {
-            w.sequence(|w| {
-                w.oid(COMMON_NAME)?;
-                w.utf8_string(text);
+    w.open_sequence(|w| {
+        w.open_set(|w| {
+            w.open_sequence(|w| {
+                w.put_arcs(COMMON_NAME)?;
+                w.put_utf8(text);
                 Ok(())
             })
         })
@@ -67,10 +67,10 @@ fn name(w: &mut Writer<'_>, text: &str) -> Result<()> {
 /// Extensions ::= SEQUENCE OF SEQUENCE { extnID OBJECT IDENTIFIER, extnValue OCTET STRING } with one subjectAltName:
 /// SEQUENCE OF GeneralName, with one dNSName [2] IMPLICIT IA5String
 fn extensions(w: &mut Writer<'_>, host: &str) -> Result<()> {
-    w.sequence(|w| {
-        w.sequence(|w| {
-            w.oid(SUBJECT_ALT_NAME)?;
-            w.octet_string_of(|w| w.sequence(|w| w.implicit(Tag::context(2)).ia5_string(host)))
+    w.open_sequence(|w| {
+        w.open_sequence(|w| {
+            w.put_arcs(SUBJECT_ALT_NAME)?;
+            w.open_octet_string(|w| w.open_sequence(|w| w.implicit(Tag::context(2)).put_ia5(host)))
         })
     })
 }
@@ -78,10 +78,10 @@ fn extensions(w: &mut Writer<'_>, host: &str) -> Result<()> {
 /// CertificationRequest ::= SEQUENCE { certificationRequestInfo, signatureAlgorithm, signature BIT STRING }
 fn request(info: &[u8], signature: &[u8]) -> Result<Vec<u8>> {
     to_vec(|w| {
-        w.sequence(|w| {
-            w.elements(info);
-            w.sequence(|w| w.oid(ECDSA_WITH_SHA256))?;
-            w.bit_string(0, signature);
+        w.open_sequence(|w| {
+            w.put_elements(info);
+            w.open_sequence(|w| w.put_arcs(ECDSA_WITH_SHA256))?;
+            w.put_bits(0, signature);
             Ok(())
         })
     })

@@ -27,12 +27,12 @@ fn main() -> io::Result<()> {
 /// Message ::= SEQUENCE { version INTEGER, community OCTET STRING, data PDUs }
 fn message(octets: &[u8]) -> Result<String> {
     let mut reader = Reader::with_rules(octets, Rules::BER);
-    reader.sequence(|r| {
+    reader.open_sequence(|r| {
         let version = r.u64()?;
-        let community = String::from_utf8_lossy(r.octet_string()?);
-        let tag = r.peek_tag()?.unwrap_or(Tag::NULL);
+        let community = String::from_utf8_lossy(r.octets()?);
+        let tag = r.peek()?.unwrap_or(Tag::NULL);
         let kind = kind(tag).ok_or_else(|| Error::new(ErrorKind::Other("no request"), r.offset()))?;
-        let request = r.tagged(tag, request)?;
+        let request = r.open_tagged(tag, request)?;
         Ok(format!(
             "{kind} version {version} community {community:?} {request}"
         ))
@@ -53,9 +53,9 @@ fn kind(tag: Tag) -> Option<&'static str> {
 fn request(r: &mut Reader<'_>) -> Result<String> {
     let (id, status, index) = (r.i64()?, r.i64()?, r.i64()?);
     let mut text = format!("id {id} status {status} index {index}");
-    r.sequence(|r| {
-        while !r.is_finished() {
-            let (name, value) = r.sequence(|r| Ok((r.oid()?, value(&r.any()?))))?;
+    r.open_sequence(|r| {
+        while !r.is_empty() {
+            let (name, value) = r.open_sequence(|r| Ok((r.oid()?, value(&r.any()?))))?;
             text += &format!("\n  {name} = {value}");
         }
         Ok(text)

@@ -26,9 +26,9 @@ struct Request<'a> {
 /// Message ::= SEQUENCE { version INTEGER, community OCTET STRING, data PDUs }
 fn read_request(input: &[u8]) -> Result<Request<'_>> {
     let mut reader = Reader::with_rules(input, Rules::BER);
-    let request = reader.sequence(|r| {
-        let (version, community) = (r.u64()?, r.octet_string()?);
-        let (id, names) = r.tagged(GET_REQUEST, |r| Ok((pdu_head(r)?, names(r)?)))?;
+    let request = reader.open_sequence(|r| {
+        let (version, community) = (r.u64()?, r.octets()?);
+        let (id, names) = r.open_tagged(GET_REQUEST, |r| Ok((pdu_head(r)?, names(r)?)))?;
         Ok(Request {
             version,
             community,
@@ -36,7 +36,7 @@ fn read_request(input: &[u8]) -> Result<Request<'_>> {
             names,
         })
     })?;
-    reader.finish()?;
+    reader.end()?;
     Ok(request)
 }
 
@@ -47,10 +47,10 @@ fn pdu_head(r: &mut Reader<'_>) -> Result<i64> {
 }
 
 fn names<'a>(r: &mut Reader<'a>) -> Result<Vec<ObjectIdentifier<'a>>> {
-    r.sequence(|r| {
+    r.open_sequence(|r| {
         let mut names = Vec::new();
-        while !r.is_finished() {
-            names.push(r.sequence(|r| {
+        while !r.is_empty() {
+            names.push(r.open_sequence(|r| {
                 let name = r.oid()?;
                 r.any()?;
                 Ok(name)
@@ -62,14 +62,14 @@ fn names<'a>(r: &mut Reader<'a>) -> Result<Vec<ObjectIdentifier<'a>>> {
 
 fn reply(request: &Request<'_>) -> Result<Vec<u8>> {
     to_vec(|w| {
-        w.sequence(|w| {
-            w.u64(request.version);
-            w.octet_string(request.community);
-            w.tagged(RESPONSE, |w| {
-                w.i64(request.id);
-                w.u64(0);
-                w.u64(0);
-                w.sequence(|w| request.names.iter().try_for_each(|name| binding(w, name)))
+        w.open_sequence(|w| {
+            w.put_u64(request.version);
+            w.put_octets(request.community);
+            w.open_tagged(RESPONSE, |w| {
+                w.put_i64(request.id);
+                w.put_u64(0);
+                w.put_u64(0);
+                w.open_sequence(|w| request.names.iter().try_for_each(|name| binding(w, name)))
             })
         })
     })
@@ -77,12 +77,12 @@ fn reply(request: &Request<'_>) -> Result<Vec<u8>> {
 
 /// VarBind ::= SEQUENCE { name ObjectName, value ObjectSyntax }
 fn binding(w: &mut Writer<'_>, name: &ObjectIdentifier<'_>) -> Result<()> {
-    w.sequence(|w| {
-        w.value(name)?;
+    w.open_sequence(|w| {
+        w.put(name)?;
         match name.to_string().as_str() {
-            "1.3.6.1.2.1.1.1.0" => w.octet_string(b"an example of dumarewhi"),
-            "1.3.6.1.2.1.1.3.0" => w.implicit(TIME_TICKS).u64(4200),
-            _ => w.implicit(NO_SUCH_OBJECT).null(),
+            "1.3.6.1.2.1.1.1.0" => w.put_octets(b"an example of dumarewhi"),
+            "1.3.6.1.2.1.1.3.0" => w.implicit(TIME_TICKS).put_u64(4200),
+            _ => w.implicit(NO_SUCH_OBJECT).put_null(),
         }
         Ok(())
     })

@@ -47,7 +47,7 @@ const LAST_KIND: u32 = 8;
 
 impl<'a> Decode<'a> for Message<'a> {
     fn decode(r: &mut Reader<'a>) -> Result<Message<'a>> {
-        r.sequence(|r| {
+        r.open_sequence(|r| {
             Ok(Message {
                 version: r.value()?,
                 community: r.value()?,
@@ -59,19 +59,19 @@ impl<'a> Decode<'a> for Message<'a> {
 
 impl Encode for Message<'_> {
     fn encode(&self, w: &mut Writer<'_>) -> Result<()> {
-        w.sequence(|w| {
-            w.value(&self.version)?;
-            w.value(self.community)?;
-            w.value(&self.pdu)
+        w.open_sequence(|w| {
+            w.put(&self.version)?;
+            w.put(self.community)?;
+            w.put(&self.pdu)
         })
     }
 }
 
 impl<'a> Decode<'a> for Pdu<'a> {
     fn decode(r: &mut Reader<'a>) -> Result<Pdu<'a>> {
-        let tag = r.peek_tag()?.filter(|tag| Pdu::begins_with(*tag));
+        let tag = r.peek()?.filter(|tag| Pdu::begins_with(*tag));
         let tag = tag.ok_or_else(|| Error::new(ErrorKind::Other("there is no PDU"), r.offset()))?;
-        r.tagged(tag, |r| {
+        r.open_tagged(tag, |r| {
             Ok(Pdu {
                 kind: tag.number,
                 request_id: r.value()?,
@@ -89,18 +89,18 @@ impl<'a> Decode<'a> for Pdu<'a> {
 
 impl Encode for Pdu<'_> {
     fn encode(&self, w: &mut Writer<'_>) -> Result<()> {
-        w.tagged(Tag::context(self.kind), |w| {
-            w.value(&self.request_id)?;
-            w.value(&self.error_status)?;
-            w.value(&self.error_index)?;
-            w.value(&self.bindings)
+        w.open_tagged(Tag::context(self.kind), |w| {
+            w.put(&self.request_id)?;
+            w.put(&self.error_status)?;
+            w.put(&self.error_index)?;
+            w.put(&self.bindings)
         })
     }
 }
 
 impl<'a> Decode<'a> for Binding<'a> {
     fn decode(r: &mut Reader<'a>) -> Result<Binding<'a>> {
-        r.sequence(|r| {
+        r.open_sequence(|r| {
             Ok(Binding {
                 name: r.value()?,
                 value: r.value()?,
@@ -111,16 +111,16 @@ impl<'a> Decode<'a> for Binding<'a> {
 
 impl Encode for Binding<'_> {
     fn encode(&self, w: &mut Writer<'_>) -> Result<()> {
-        w.sequence(|w| {
-            w.value(&self.name)?;
-            w.value(&self.value)
+        w.open_sequence(|w| {
+            w.put(&self.name)?;
+            w.put(&self.value)
         })
     }
 }
 
 impl<'a> Decode<'a> for Value<'a> {
     fn decode(r: &mut Reader<'a>) -> Result<Value<'a>> {
-        Ok(match r.peek_tag()? {
+        Ok(match r.peek()? {
             Some(Tag::INTEGER) => Value::Integer(r.value()?),
             Some(Tag::OCTET_STRING) => Value::String(r.value()?),
             Some(Tag::OBJECT_IDENTIFIER) => Value::Identifier(r.value()?),
@@ -128,8 +128,8 @@ impl<'a> Decode<'a> for Value<'a> {
                 r.null()?;
                 Value::Unspecified
             }
-            Some(TIME_TICKS) => Value::TimeTicks(r.expect_implicit(TIME_TICKS).value()?),
-            Some(COUNTER_64) => Value::Counter64(r.expect_implicit(COUNTER_64).value()?),
+            Some(TIME_TICKS) => Value::TimeTicks(r.implicit(TIME_TICKS).value()?),
+            Some(COUNTER_64) => Value::Counter64(r.implicit(COUNTER_64).value()?),
             _ => Value::Other(r.value()?),
         })
     }
@@ -142,13 +142,13 @@ impl<'a> Decode<'a> for Value<'a> {
 impl Encode for Value<'_> {
     fn encode(&self, w: &mut Writer<'_>) -> Result<()> {
         match self {
-            Value::Integer(number) => w.value(number)?,
-            Value::String(octets) => w.value(*octets)?,
-            Value::Identifier(identifier) => w.value(identifier)?,
-            Value::Unspecified => w.null(),
-            Value::TimeTicks(ticks) => w.implicit(TIME_TICKS).u64((*ticks).into()),
-            Value::Counter64(number) => w.implicit(COUNTER_64).u64(*number),
-            Value::Other(any) => w.value(any)?,
+            Value::Integer(number) => w.put(number)?,
+            Value::String(octets) => w.put(*octets)?,
+            Value::Identifier(identifier) => w.put(identifier)?,
+            Value::Unspecified => w.put_null(),
+            Value::TimeTicks(ticks) => w.implicit(TIME_TICKS).put_u64((*ticks).into()),
+            Value::Counter64(number) => w.implicit(COUNTER_64).put_u64(*number),
+            Value::Other(any) => w.put(any)?,
         }
         Ok(())
     }

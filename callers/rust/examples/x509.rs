@@ -1,13 +1,12 @@
 //! Prints the fields of certificates (RFC 5280) in DER or PEM: `cargo run --features pem --example x509 FILE..`.
 //! `--named TEXT` prints only those with that commonName or DNS name.
-use dumarewhi::x509::{Certificate, Extension, GeneralName, GeneralNames, PublicKey, RsaPublicKey, Value};
+use dumarewhi::x509::{Certificate, Extension, GeneralNames, Value};
 use dumarewhi::{check_der, oid, pem, ObjectIdentifier};
 use std::error::Error;
 use std::process::exit;
 use std::{env, fs};
 
 const COMMON_NAME: ObjectIdentifier<'static> = oid!(2, 5, 4, 3);
-const RSA_ENCRYPTION: ObjectIdentifier<'static> = oid!(1, 2, 840, 113549, 1, 1, 1);
 
 fn main() {
     let mut words: Vec<_> = env::args().skip(1).collect();
@@ -59,11 +58,8 @@ fn has_name(it: &Certificate<'_>, name: &str) -> bool {
         .subject()
         .find(COMMON_NAME)
         .and_then(|attribute| attribute.as_str());
-    let alternative = it.extensions().iter().any(|extension| match extension.value() {
-        Ok(Value::SubjectAltName(names)) => names.iter().any(|it| it == GeneralName::DnsName(name)),
-        _ => false,
-    });
-    common_name == Some(name) || alternative
+    let alternative = it.extensions().subject_alt_name().ok().flatten();
+    common_name == Some(name) || alternative.map_or(false, |names| names.dns_names().any(|it| it == name))
 }
 
 fn print(it: &Certificate<'_>) {
@@ -74,11 +70,11 @@ fn print(it: &Certificate<'_>) {
     println!("not before: {}", it.not_before());
     println!("not after: {}", it.not_after());
     println!("subject: {}", it.subject());
-    println!(
-        "key: {}, {}",
-        it.public_key().algorithm().identifier(),
-        size(&it.public_key())
-    );
+    let key = it.public_key();
+    print!("key: {}", key.algorithm().identifier());
+    key.curve().iter().for_each(|curve| print!(", {curve:?}"));
+    key.key_size().iter().for_each(|bits| print!(", {bits} bits"));
+    println!();
     for extension in it.extensions() {
         let critical = if extension.is_critical() { " critical" } else { "" };
         println!(
@@ -88,26 +84,6 @@ fn print(it: &Certificate<'_>) {
         );
     }
     println!("sha-256: {}", hex(&it.fingerprint()));
-}
-
-/// The size of a key: the bits of an RSA modulus, or else the octets.
-fn size(key: &PublicKey<'_>) -> String {
-    let octets = key.bits().raw_bytes();
-    match RsaPublicKey::from_der(octets) {
-        Ok(rsa) if key.algorithm().identifier() == RSA_ENCRYPTION => {
-            let modulus = rsa.modulus().as_bytes();
-            let first = modulus
-                .iter()
-                .position(|octet| *octet != 0)
-                .unwrap_or(modulus.len());
-            let bits = 8 * (modulus.len() - first);
-            let unused = modulus
-                .get(first)
-                .map_or(0, |octet| octet.leading_zeros() as usize);
-            format!("{} bits", bits - unused)
-        }
-        _ => format!("{} octets", octets.len()),
-    }
 }
 
 fn value(extension: &Extension<'_>) -> String {
@@ -129,24 +105,9 @@ fn value(extension: &Extension<'_>) -> String {
 fn general_names(names: GeneralNames<'_>) -> String {
     names
         .iter()
-        .map(|name| general_name(&name))
+        .map(|name| name.to_string())
         .collect::<Vec<_>>()
         .join(", ")
-}
-
-/// An attacker may have chosen the texts, so they are escaped. The text of a `Name` is escaped already.
-fn general_name(name: &GeneralName<'_>) -> String {
-    if let Some(address) = name.ip_addr() {
-        return format!("IP:{address}");
-    }
-    match name {
-        GeneralName::DnsName(text) => format!("DNS:{}", text.escape_default()),
-        GeneralName::Rfc822Name(text) => format!("email:{}", text.escape_default()),
-        GeneralName::Uri(text) => format!("URI:{}", text.escape_default()),
-        GeneralName::DirectoryName(name) => format!("DirName:{name}"),
-        GeneralName::RegisteredId(identifier) => format!("RID:{identifier}"),
-        other => format!("{other:?}"),
-    }
 }
 
 fn hex(octets: &[u8]) -> String {

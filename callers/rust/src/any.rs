@@ -29,8 +29,6 @@ pub struct Any<'a> {
     /// Offset of the input in the outermost one.
     base: usize,
     rules: Rules,
-    /// The tag of its type, or the implicit tag that replaces it.
-    tag: Tag,
 }
 
 impl<'a> Any<'a> {
@@ -51,18 +49,12 @@ impl<'a> Any<'a> {
             element,
             base,
             rules,
-            tag: element.tag(),
         }
-    }
-
-    /// The same element as one of the type with this tag.
-    pub(crate) fn with_tag(self, tag: Tag) -> Any<'a> {
-        Any { tag, ..self }
     }
 
     /// The tag.
     pub fn tag(&self) -> Tag {
-        self.tag
+        self.element.tag()
     }
 
     /// Whether it is constructed, by its identifier octets (X.690 8.1.2.5).
@@ -88,21 +80,21 @@ impl<'a> Any<'a> {
 
     /// Reads it as a value of a type with this tag.
     fn read<T>(&self, tag: Tag, read: impl FnOnce(&mut Reader<'a>) -> Result<T>) -> Result<T> {
-        if self.tag != tag {
+        if self.tag() != tag {
             return Err(self.unexpected(Some(tag)));
         }
         let mut reader = Reader::inside(self.octets(), self.offset(), self.rules);
-        read(reader.expect_implicit(self.element.tag()))
+        read(reader.implicit(tag))
     }
 
     fn unexpected(&self, expected: Option<Tag>) -> Error {
-        let actual = self.tag;
+        let actual = self.tag();
         Error::new(ErrorKind::UnexpectedTag { expected, actual }, self.offset())
     }
 
     /// Reads an INTEGER, or an ENUMERATED, which is one but for its tag (X.690 8.4).
     fn read_number<T>(&self, read: impl FnOnce(&mut Reader<'a>) -> Result<T>) -> Result<T> {
-        match self.tag {
+        match self.tag() {
             Tag::ENUMERATED => self.read(Tag::ENUMERATED, read),
             _ => self.read(Tag::INTEGER, read),
         }
@@ -130,7 +122,7 @@ macro_rules! calls {
 
 calls! {
     /// The class of the tag.
-    class: Class = |it| it.tag.class;
+    class: Class = |it| it.tag().class;
     /// The offset of the element in the input.
     offset: usize = |it| it.base.saturating_add(it.element.header);
     /// The identifier and length octets.
@@ -147,12 +139,12 @@ calls! {
     /// let any = Any::from_der(&[0xa0, 0x03, 0x02, 0x01, 0x02])?;
     /// let mut reader = any.reader()?;
     /// assert_eq!(reader.u64()?, 2);
-    /// reader.finish()?;
+    /// reader.end()?;
     /// # Ok::<(), dumarewhi::Error>(())
     /// ```
     reader: Result<Reader<'a>> = |it| match it.is_constructed() {
         true => Ok(Reader::inside(it.content(), it.content_offset(), it.rules.inside())),
-        false => Err(Error::new(ErrorKind::ConstructedExpected(it.tag), it.offset())),
+        false => Err(Error::new(ErrorKind::ConstructedExpected(it.tag()), it.offset())),
     };
     /// A BOOLEAN (X.690 8.2).
     as_bool: Result<bool> = |it| it.read(Tag::BOOLEAN, Reader::boolean);
@@ -167,21 +159,21 @@ calls! {
     /// A character string (X.690 8.23): UTF8String, NumericString, PrintableString, IA5String, VisibleString,
     /// TeletexString, VideotexString, GraphicString, GeneralString or ObjectDescriptor. The last five are read as
     /// UTF-8. A BMPString or UniversalString is no `&str`: take its content octets.
-    as_str: Result<&'a str> = |it| match it.tag.is_text() {
-        true => it.read(it.tag, |reader| reader.text(it.tag)),
+    as_str: Result<&'a str> = |it| match it.tag().is_text() {
+        true => it.read(it.tag(), |reader| reader.text(it.tag())),
         false => Err(it.unexpected(None)),
     };
     /// An OCTET STRING (X.690 8.7). The parts of a constructed one aren't joined: [`reader`](Any::reader) reads them.
-    as_bytes: Result<&'a [u8]> = |it| it.read(Tag::OCTET_STRING, Reader::octet_string);
+    as_bytes: Result<&'a [u8]> = |it| it.read(Tag::OCTET_STRING, Reader::octets);
     /// A BIT STRING (X.690 8.6).
-    as_bit_string: Result<BitString<'a>> = |it| it.read(Tag::BIT_STRING, Reader::bit_string);
+    as_bit_string: Result<BitString<'a>> = |it| it.read(Tag::BIT_STRING, Reader::bits);
     /// A UTCTime or a GeneralizedTime (X.690 11.7 and 11.8).
-    as_time: Result<Time> = |it| match it.tag {
+    as_time: Result<Time> = |it| match it.tag() {
         Tag::UTC_TIME => it.read(Tag::UTC_TIME, Reader::utc_time),
         _ => it.read(Tag::GENERALIZED_TIME, Reader::generalized_time),
     }.map_err(Error::without_value);
     /// Whether it is a NULL (X.690 8.8).
-    is_null: bool = |it| it.tag == Tag::NULL;
+    is_null: bool = |it| it.tag() == Tag::NULL;
 }
 
 impl Rules {
@@ -214,7 +206,7 @@ forward!(AsRef by octets for Any<'_>);
 
 impl PartialEq for Any<'_> {
     fn eq(&self, other: &Self) -> bool {
-        (self.tag, self.octets()) == (other.tag, other.octets())
+        (self.tag(), self.octets()) == (other.tag(), other.octets())
     }
 }
 
@@ -222,14 +214,14 @@ impl Eq for Any<'_> {}
 
 impl Hash for Any<'_> {
     fn hash<H: Hasher>(&self, state: &mut H) {
-        (self.tag, self.octets()).hash(state);
+        (self.tag(), self.octets()).hash(state);
     }
 }
 
 impl fmt::Debug for Any<'_> {
     fn fmt(&self, f: &mut fmt::Formatter<'_>) -> fmt::Result {
         f.debug_struct("Any")
-            .field("tag", &self.tag)
+            .field("tag", &self.tag())
             .field("constructed", &self.is_constructed())
             .field("offset", &self.offset())
             .field("content", &self.content())

@@ -19,13 +19,15 @@ use core::fmt;
 /// let error = check_der(&[0x02]).unwrap_err();
 /// assert!(error.is_incomplete());
 /// ```
-#[derive(Clone, Copy, Debug, PartialEq, Eq, Hash)]
+#[derive(Clone, Copy, PartialEq, Eq, Hash)]
 pub struct Error {
     kind: ErrorKind,
     /// The library's error of a certificate; for another input only its offset.
     fault: Fault,
     /// Of a certificate: the tag of the element, if it isn't the expected one.
     found: Option<Tag>,
+    /// Of a certificate: whether the input is PEM.
+    is_pem: bool,
 }
 
 /// What is wrong.
@@ -121,6 +123,7 @@ impl Error {
             kind,
             fault,
             found: None,
+            is_pem: false,
         }
     }
 
@@ -148,6 +151,7 @@ impl Error {
         let found = found.and_then(|octets| Rules::DER.first(octets).ok());
         Error {
             found: found.map(|element| element.tag()),
+            is_pem: input.starts_with(b"-----BEGIN"),
             ..Error::of_fault(fault)
         }
     }
@@ -240,122 +244,6 @@ impl Error {
     }
 }
 
-macro_rules! reasons {
-    ($($name:ident = $number:literal, $text:literal;)*) => {
-        /// Each reason, as `enum dm_error` names it.
-        impl Reason {
-            $(#[doc = concat!("\"", $text, "\", number ", $number, ".")]
-            pub const $name: Reason = Reason($number);)*
-
-            fn name(self) -> Option<&'static str> {
-                match self {
-                    $(Reason::$name => Some(stringify!($name)),)*
-                    _ => None,
-                }
-            }
-        }
-
-        #[cfg(test)]
-        const NAMED: &[(&str, Reason, &str)] = &[$((stringify!($name), Reason::$name, $text)),*];
-    };
-}
-
-reasons! {
-    WRONG_TYPE = 1, "wrong type";
-    WRONG_VALUE = 2, "wrong value";
-    MAX_DEPTH = 3, "maximum depth reached";
-    INVALID_LENGTH = 4, "invalid length";
-    INVALID_TAG = 5, "invalid tag";
-    UNKNOWN_TAG = 6, "unknown tag";
-    UNEXPECTED_TAG = 7, "unexpected tag";
-    UNEXPECTED_CLASS = 8, "unexpected class";
-    CONSTRUCTED_EXPECTED = 9, "constructed encoding expected";
-    PRIMITIVE_EXPECTED = 10, "primitive encoding expected";
-    INTEGER_TOO_LARGE = 11, "integer too large";
-    INTEGER_NEGATIVE = 12, "integer negative";
-    INVALID_VALUE = 13, "invalid value";
-    INVALID_CHARACTER = 14, "invalid character in string";
-    INVALID_TIME = 15, "invalid date or time";
-    UNSUPPORTED = 16, "unsupported";
-    OVERRUN = 17, "item runs past the end of its container";
-    PARSER_FAULT = 18, "parser fault";
-    INDEFINITE_LENGTH = 32, "DER constraint failed: indefinite length";
-    LENGTH_NOT_MINIMAL = 33, "DER constraint failed: length not minimal";
-    CONSTRUCTED = 34, "DER constraint failed: constructed";
-    INVALID_BOOLEAN = 35, "DER constraint failed: invalid boolean";
-    INTEGER_EMPTY = 36, "DER constraint failed: integer empty";
-    INTEGER_LEADING_ZEROES = 37, "DER constraint failed: integer with leading zeroes";
-    INTEGER_LEADING_FF = 38, "DER constraint failed: integer with leading ff";
-    MISSING_TIME_ZONE = 39, "DER constraint failed: missing time zone";
-    MISSING_SECONDS = 40, "DER constraint failed: missing seconds";
-    FRACTION_NOT_MINIMAL = 41, "DER constraint failed: fraction not minimal";
-    UNUSED_BITS_NOT_ZERO = 42, "DER constraint failed: unused bits not zero";
-    SET_OUT_OF_ORDER = 43, "DER constraint failed: set out of order";
-    NO_END_MARKER = 48, "an indefinite length has no end-of-contents octets (X.690 8.1.3.6)";
-    STRAY_END_MARKER = 49, "end-of-contents octets, and no indefinite length ends here (X.690 8.1.5)";
-    PART_OF_ANOTHER_TYPE = 50, "a part of a constructed string isn't an OCTET STRING, or of a BIT STRING no BIT STRING \
-        (X.690 8.6.4 and 8.7.3)";
-    UNUSED_BITS_INSIDE = 51, "a part of a BIT STRING has unused bits, and another part follows (X.690 8.6.4)";
-    NOT_DER = 52, "these are no elements of DER (X.690 10)";
-    BOOLEAN_LENGTH = 64, "a BOOLEAN isn't one octet (X.690 8.2.1)";
-    BOOLEAN_VALUE = 65, "a BOOLEAN is neither 00 nor ff (X.690 11.1)";
-    NUMBER_EMPTY = 66, "a number has no octets (X.690 8.3.1)";
-    NUMBER_PADDED = 67, "the first nine bits of a number are alike (X.690 8.3.2)";
-    UNUSED_BITS_MISSING = 68, "a BIT STRING has no octets (X.690 8.6.2.1)";
-    UNUSED_BITS_ABOVE_SEVEN = 69, "more than seven bits are unused (X.690 8.6.2.2)";
-    UNUSED_BITS_OF_NONE = 70, "a BIT STRING without bits has unused ones (X.690 8.6.2.3)";
-    UNUSED_BIT_IS_SET = 71, "an unused bit isn't 0 (X.690 11.2.1)";
-    NULL_NOT_EMPTY = 72, "a NULL has octets (X.690 8.8.2)";
-    IDENTIFIER_EMPTY = 73, "an identifier has no octets (X.690 8.19.2, 8.20.2)";
-    ARC_OPEN = 74, "the last arc has no end (X.690 8.19.2, 8.20.2)";
-    ARC_PADDED = 75, "an arc begins with 80 (X.690 8.19.2, 8.20.2)";
-    REAL_BASE_RESERVED = 76, "the base of a REAL is a reserved one (X.690 8.5.7.2)";
-    REAL_EXPONENT_MISSING = 77, "a REAL has no exponent (X.690 8.5.7.4)";
-    REAL_MANTISSA_MISSING = 78, "a REAL has no mantissa (X.690 8.5.7.5)";
-    REAL_EXPONENT_PADDED = 79, "the first nine bits of an exponent are alike (X.690 8.5.7.4)";
-    REAL_BASE_OR_SCALE = 80, "a REAL has a base other than 2 or a scaling factor (X.690 11.3.1)";
-    REAL_EXPONENT_NOT_FEWEST = 81, "an exponent isn't in its fewest octets (X.690 11.3.1)";
-    REAL_MANTISSA_NOT_FEWEST = 82, "a mantissa is even or begins with 00 (X.690 11.3.1)";
-    REAL_SPECIAL = 83, "a special value of a REAL isn't known (X.690 8.5.9)";
-    REAL_DECIMAL = 84, "a decimal REAL isn't in its form of ISO 6093 (X.690 8.5.8)";
-    REAL_DECIMAL_NOT_STRICT = 85, "a decimal REAL has needless characters (X.690 11.3.2)";
-    NOT_UTF8 = 86, "a text isn't UTF-8 (X.690 8.21, 8.22, 8.23.10)";
-    CHARACTER_OUTSIDE = 87, "an octet is outside of the character set (X.690 8.23)";
-    UNIVERSAL_STRING_LENGTH = 88, "a UniversalString isn't groups of four octets (X.690 8.23.7)";
-    BMP_STRING_LENGTH = 89, "a BMPString isn't pairs of octets (X.690 8.23.9)";
-    TIME_TEXT = 90, "a time isn't a text of its type (X.690 8.25)";
-    TIME_NOT_IN_Z = 91, "a time doesn't end in Z (X.690 11.7.1, 11.8.1)";
-    TIME_WITHOUT_SECONDS = 92, "a time has no seconds (X.690 11.7.2, 11.8.2)";
-    TIME_COMMA = 93, "a fraction has a comma (X.690 11.7.4)";
-    TIME_LAST_ZERO = 94, "a fraction ends in 0 (X.690 11.7.3)";
-    SEQUENCE_PRIMITIVE = 95, "a SEQUENCE is primitive (X.690 8.9.1)";
-    SET_PRIMITIVE = 96, "a SET is primitive (X.690 8.11.1)";
-    EMBEDDED_PDV_PRIMITIVE = 97, "an EMBEDDED PDV is primitive (X.690 8.17)";
-    EXTERNAL_PRIMITIVE = 98, "an EXTERNAL is primitive (X.690 8.18.1)";
-    CHARACTER_STRING_PRIMITIVE = 99, "a CHARACTER STRING is primitive (X.690 8.24)";
-    ALGORITHMS_DIFFER = 128, "the signature algorithms differ";
-    SERIAL_NUMBER_NOT_POSITIVE = 129, "the serial number is not positive";
-    SERIAL_NUMBER_TOO_LONG = 130, "the serial number has more than 20 octets";
-    ISSUER_EMPTY = 131, "the issuer has no name";
-    ATTRIBUTES_OUT_OF_ORDER = 132, "attributes of a relative name are out of order";
-    EARLY_GENERALIZED_TIME = 133, "a time before 2050 is a GeneralizedTime";
-    TIME_WITH_FRACTION = 134, "a time has a fraction of a second";
-    UNIQUE_ID_IN_VERSION_1 = 135, "a unique identifier in version 1";
-    EXTENSIONS_BEFORE_VERSION_3 = 136, "extensions before version 3";
-    EXTENSION_REPEATED = 137, "an extension is repeated, or there are more than 512";
-    SUBJECT_WITHOUT_NAME = 138, "the subject has no name";
-    VALUE_NOT_DER = 139, "a value of any type is not DER";
-    PEM_NO_BLOCK = 192, "no line -----BEGIN ..-----";
-    PEM_NO_END = 193, "a block without its line -----END ..-----";
-    PEM_LABELS_DIFFER = 194, "a block whose first and last line have other labels";
-    PEM_ENCRYPTED = 195, "the block is encrypted";
-    PEM_BASE64 = 196, "invalid base64";
-    PEM_NO_ROOM = 197, "a buffer is too small for the block";
-}
-
-/// The most octets of an error's text.
-pub(crate) const LONGEST_TEXT: usize = 160;
-
 /// What the function makes of a text that is written to a slice, and whose length is returned. One of more than `N`
 /// octets is written in memory that is allocated for it: without the feature `alloc` there is none.
 pub(crate) fn with_text<const N: usize, T>(
@@ -377,7 +265,7 @@ pub(crate) fn with_text<const N: usize, T>(
 
 /// Shows a text that is written to a slice.
 pub(crate) fn show(f: &mut fmt::Formatter<'_>, write: impl Fn(&mut [u8]) -> usize) -> fmt::Result {
-    with_text::<LONGEST_TEXT, _>(|text| Some(write(text)), |text| f.write_str(text))
+    with_text::<{ ffi::TEXT_OCTETS }, _>(|text| Some(write(text)), |text| f.write_str(text))
         .unwrap_or(Err(fmt::Error))
 }
 
@@ -428,10 +316,25 @@ impl fmt::Display for ErrorKind {
     }
 }
 
+/// With the name of its kind, and of a certificate with that of its field.
+impl fmt::Debug for Error {
+    fn fmt(&self, f: &mut fmt::Formatter<'_>) -> fmt::Result {
+        let mut shown = f.debug_struct("Error");
+        shown.field("kind", &self.kind).field("offset", &self.offset());
+        if self.field() != Field::None {
+            shown.field("field", &self.field());
+        }
+        shown.finish()
+    }
+}
+
 impl fmt::Display for Error {
     fn fmt(&self, f: &mut fmt::Formatter<'_>) -> fmt::Result {
         if self.fault.status == ffi::OK {
             return write!(f, "{} at offset {}", self.kind, self.offset());
+        }
+        if self.is_pem {
+            return Reason::PEM_INPUT.fmt(f);
         }
         show(f, |text| ffi::fault_text(&self.fault, text))?;
         self.found.map_or(Ok(()), |tag| write!(f, ", found {tag}"))

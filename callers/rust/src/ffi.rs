@@ -6,96 +6,112 @@
 //! that it writes, which are parts of the octets that were passed (it is proved), and borrow them here.
 #![allow(unsafe_code)]
 
+/// Structs of the library, with their names in `dumarewhi.h`, and for tests their layouts.
+macro_rules! structs {
+    ($($(#[$doc:meta])* $visible:vis struct $name:ident$(<$a:lifetime>)? as $of_c:ident {
+        $($field:ident: $type:ty,)*
+    })*) => {
+        $($(#[$doc])*
+        #[repr(C)]
+        #[derive(Clone, Copy, Debug, Default, PartialEq, Eq, Hash)]
+        $visible struct $name$(<$a>)? {
+            $(pub(crate) $field: $type,)*
+        }
+
+        #[cfg(test)]
+        impl$(<$a>)? $name$(<$a>)? {
+            pub(crate) fn rows() -> Rows {
+                tests::layout!(Self, $of_c, [$($field),*])
+            }
+        })*
+    };
+}
+
+/// Calls that read an input: one for each line, with its name here and what it reads.
+macro_rules! reads {
+    ($(fn $call:ident() as $name:ident -> $type:ty;)*) => {
+        extern "C" {
+            $(fn $call<'a>(i: *const u8, n: usize, to: *mut $type, fault: *mut Fault) -> u32;)*
+        }
+
+        $(#[allow(clippy::needless_lifetimes)]
+        pub(crate) fn $name<'a>(input: &'a [u8]) -> Result<$type> {
+            // SAFETY: as in the module above.
+            value_or_fault(|to, fault| unsafe { $call(input.as_ptr(), input.len(), to, fault) })
+                .map_err(|fault| Error::of_input(fault, input))
+        })*
+    };
+}
+
+/// Calls that take the next item of a list: one for each line, with its name here and what an item is.
+macro_rules! items {
+    ($(fn $call:ident() as $name:ident -> $type:ty;)*) => {
+        extern "C" {
+            $(fn $call<'a>(list: *mut Octets<'a>, item: *mut $type) -> u32;)*
+        }
+
+        $(pub(crate) fn $name<'a>(list: &mut Octets<'a>) -> Option<$type> {
+            // SAFETY: as in the module above.
+            let (item, found) = written(|to| unsafe { $call(list, to) });
+            (found != 0).then_some(item)
+        })*
+    };
+}
+
+/// Calls that read the next field: one for each line, with its name here and what it reads.
+macro_rules! fields {
+    ($(fn $call:ident() as $name:ident -> $type:ty;)*) => {
+        extern "C" {
+            $(fn $call<'a>(c: *mut Cursor<'a>, to: *mut $type, fault: *mut Fault) -> u32;)*
+        }
+
+        impl<'a> Cursor<'a> {
+            $(pub(crate) fn $name(&mut self) -> Result<$type, Fault> {
+                // SAFETY: as in the module above.
+                value_or_fault(|to, fault| unsafe { $call(self, to, fault) })
+            })*
+        }
+    };
+}
+
+/// Calls with a writer: one for each line, with its name here. What is behind a semicolon is the items of a slice,
+/// which is passed as its pointer and length. A number that is returned is that of an error, or 0.
+macro_rules! puts {
+    ($(fn $call:ident($($it:ident: $type:ty),* $(; $slice:ident: $item:ty)?) as $name:ident $(-> $result:ty)?;)*) => {
+        extern "C" {
+            $(fn $call(w: *mut WriterState, $($it: $type,)* $($slice: *const $item, n: usize)?) $(-> $result)?;)*
+        }
+
+        impl Fields<'_> {
+            $(pub(crate) fn $name(&mut self, $($it: $type,)* $($slice: &[$item])?) $(-> $result)? {
+                // SAFETY: as in the module above.
+                unsafe { $call(&mut self.state, $($it,)* $($slice.as_ptr(), $slice.len())?) }
+            })*
+        }
+    };
+}
+
 mod cursor;
+#[allow(dead_code)]
+#[rustfmt::skip]
+mod header;
 #[cfg(feature = "pem")]
 mod pem;
 mod writer;
 mod x509;
 
+use crate::{Error, Result};
 #[cfg(feature = "alloc")]
 use alloc::vec::Vec;
 use core::fmt;
 use core::hash::{Hash, Hasher};
 use core::marker::PhantomData;
-pub(crate) use cursor::*;
+pub use header::Element;
+pub(crate) use header::*;
 #[cfg(feature = "pem")]
 pub(crate) use pem::*;
 pub(crate) use writer::*;
 pub(crate) use x509::*;
-
-/// The offsets of one element in an input, and its identifier octets (X.690 8.1.2).
-///
-/// [`list_der`](crate::list_der) writes elements to a buffer. A default one is only there to make that
-/// buffer: it has no octets, at offset 0.
-///
-/// ```
-/// use dumarewhi::{list_der, Element, Tag};
-///
-/// let input = [0x30, 0x06, 0x02, 0x01, 0x05, 0x01, 0x01, 0xff];
-/// let mut elements = [Element::default(); 3];
-/// assert_eq!(list_der(&input, &mut elements)?, 3);
-/// assert_eq!(elements[0].tag(), Tag::SEQUENCE);
-/// assert_eq!(elements[0].descendants(), 2);
-/// assert_eq!(elements[2].tag(), Tag::BOOLEAN);
-/// assert_eq!(elements[2].content_range(), 7..8);
-/// # Ok::<(), dumarewhi::Error>(())
-/// ```
-#[repr(C)]
-#[derive(Clone, Copy, Debug, Default, PartialEq, Eq, Hash)]
-pub struct Element {
-    pub(crate) header: usize,
-    pub(crate) content: usize,
-    pub(crate) end: usize,
-    pub(crate) inside: usize,
-    pub(crate) number: u32,
-    pub(crate) tag_class: u8,
-    pub(crate) constructed: u8,
-    pub(crate) definite: u8,
-    pub(crate) reserved: u8,
-}
-
-pub(crate) const OK: u32 = 0;
-#[cfg(test)]
-const ERROR: u32 = 1;
-pub(crate) const INCOMPLETE: u32 = 2;
-pub(crate) const NO_ROOM: u32 = 3;
-#[cfg(test)]
-const NOT_CLOSED: u32 = 4;
-
-structs! {
-    struct Outcome as dm_outcome {
-        elements: usize,
-        length: usize,
-        place: usize,
-        missing: usize,
-        status: u32,
-        error: u32,
-    }
-
-    struct TimeFields as dm_time {
-        year: u32,
-        nanosecond: u32,
-        month: u8,
-        day: u8,
-        hour: u8,
-        minute: u8,
-        second: u8,
-        zone: u8,
-        zone_hours: i8,
-        zone_minutes: i8,
-    }
-
-    /// Why an input isn't what a call reads.
-    struct Fault as dm_fault {
-        offset: usize,
-        list_end: usize,
-        needed: usize,
-        status: u32,
-        error: u32,
-        field: u32,
-        is_in_list: u32,
-    }
-}
 
 /// A part of an input.
 #[repr(C)]
@@ -128,6 +144,13 @@ impl<'a> Octets<'a> {
             // SAFETY: see above.
             length => unsafe { core::slice::from_raw_parts(self.octets, length) },
         }
+    }
+}
+
+#[cfg(test)]
+impl Octets<'_> {
+    fn rows() -> Rows {
+        tests::layout!(Self, dm_octets, [octets, length])
     }
 }
 
@@ -168,31 +191,6 @@ impl<'a> From<Octets<'a>> for &'a str {
     fn from(octets: Octets<'a>) -> &'a str {
         core::str::from_utf8(octets.get()).unwrap_or_default()
     }
-}
-
-pub(crate) const MAX_DEPTH: usize = 101;
-pub(crate) const ZONE_LOCAL: u8 = 0;
-pub(crate) const ZONE_UTC: u8 = 1;
-pub(crate) const ZONE_OFFSET: u8 = 2;
-
-#[rustfmt::skip]
-extern "C" {
-    fn dm_parse_der(i: *const u8, n: usize, depth: usize, e: *mut Element, room: usize, to: *mut Outcome) -> u32;
-    fn dm_parse_ber(i: *const u8, n: usize, depth: usize, e: *mut Element, room: usize, to: *mut Outcome) -> u32;
-    fn dm_check_der(i: *const u8, n: usize, depth: usize, to: *mut Outcome) -> u32;
-    fn dm_check_ber(i: *const u8, n: usize, depth: usize, to: *mut Outcome) -> u32;
-    fn dm_first_der(i: *const u8, n: usize, e: *mut Element, to: *mut Outcome) -> u32;
-    fn dm_first_ber(i: *const u8, n: usize, e: *mut Element, to: *mut Outcome) -> u32;
-    fn dm_write_der(i: *const u8, n: usize, out: *mut u8, room: usize, to: *mut Outcome) -> u32;
-    fn dm_error_text(error: u32, text: *mut u8, room: usize) -> usize;
-    fn dm_fault_text(fault: *const Fault, text: *mut u8, room: usize) -> usize;
-    fn dm_tag_text(tag_class: u8, number: u32, text: *mut u8, room: usize) -> usize;
-    fn dm_name_text(i: *const u8, n: usize, text: *mut u8, room: usize) -> usize;
-    fn dm_read_oid(i: *const u8, n: usize, text: *mut u8, room: usize, needed: *mut usize) -> u32;
-    fn dm_read_i64(i: *const u8, n: usize, value: *mut i64) -> u32;
-    fn dm_read_u64(i: *const u8, n: usize, value: *mut u64) -> u32;
-    fn dm_check_text(number: u32, i: *const u8, n: usize) -> u32;
-    fn dm_sha256(i: *const u8, n: usize, digest: *mut Digest);
 }
 
 /// Lists the first element and those inside it: as many as there is room for.
@@ -259,9 +257,11 @@ pub(crate) fn tag_text(tag_class: u8, number: u32, text: &mut [u8]) -> usize {
     unsafe { dm_tag_text(tag_class, number, text.as_mut_ptr(), text.len()) }
 }
 
-pub(crate) fn name_text(name: &[u8], text: &mut [u8]) -> usize {
+/// In ASCII, or in UTF-8.
+pub(crate) fn name_text(utf8: bool, name: &[u8], text: &mut [u8]) -> usize {
+    let call = if utf8 { dm_name_utf8 } else { dm_name_text };
     // SAFETY: see above.
-    unsafe { dm_name_text(name.as_ptr(), name.len(), text.as_mut_ptr(), text.len()) }
+    unsafe { call(name.as_ptr(), name.len(), text.as_mut_ptr(), text.len()) }
 }
 
 /// The dotted text of an identifier, or the number of an error.
@@ -321,6 +321,6 @@ fn value_or_fault<T: Default>(call: impl FnOnce(*mut T, *mut Fault) -> u32) -> R
 }
 
 #[cfg(test)]
-pub(crate) mod tests;
+use tests::Rows;
 #[cfg(test)]
-pub(crate) use tests::layout;
+mod tests;

@@ -41,9 +41,11 @@ macro_rules! forward {
 
 /// An enum of numbers, and which of them has a number, or else this one.
 macro_rules! numbered {
-    ($(#[$meta:meta])* $name:ident or $other:ident: $($(#[$doc:meta])* $item:ident = $number:literal,)*) => {
+    ($(#[$meta:meta])* $visible:vis enum $name:ident or $other:ident {
+        $($(#[$doc:meta])* $item:ident = $number:literal,)*
+    }) => {
         $(#[$meta])*
-        pub enum $name {
+        $visible enum $name {
             $($(#[$doc])* $item = $number,)*
         }
 
@@ -54,28 +56,67 @@ macro_rules! numbered {
                     _ => $name::$other,
                 }
             }
-
-            #[cfg(test)]
-            pub(crate) const ALL: &'static [(&'static str, $name)] = &[$((stringify!($item), $name::$item)),*];
         }
     };
 }
 
-/// Structs of the library, with their names in `dumarewhi.h`, and of the tests the rows of their layout.
-macro_rules! structs {
-    ($($(#[$doc:meta])* struct $name:ident$(<$a:lifetime>)? as $of_c:ident { $($field:ident: $type:ty,)* })*) => {
-        $($(#[$doc])*
-        #[repr(C)]
-        #[derive(Clone, Copy, Debug, Default, PartialEq, Eq, Hash)]
-        pub(crate) struct $name$(<$a>)? {
-            $(pub $field: $type,)*
+/// The constants of identifiers.
+macro_rules! identifiers {
+    ($($name:ident = $($arc:literal),+ => $text:literal;)*) => {
+        /// Some identifiers.
+        impl ObjectIdentifier<'static> {
+            $(#[doc = concat!("`", $text, "`")]
+            pub const $name: ObjectIdentifier<'static> = crate::oid!($($arc),+);)*
         }
+    };
+}
 
-        #[cfg(test)]
-        impl$(<$a>)? $name$(<$a>)? {
-            pub(crate) fn rows() -> std::vec::Vec<(std::string::String, usize)> {
-                crate::ffi::layout!(Self::default(), $of_c, [$($field),*])
+/// The constants of errors, and their texts.
+macro_rules! reasons {
+    ($($name:ident = $number:literal, $text:literal;)*) => {
+        /// Each reason, as `enum dm_error` names it.
+        impl Reason {
+            $(#[doc = concat!("\"", $text, "\", number ", $number, ".")]
+            pub const $name: Reason = Reason($number);)*
+
+            pub(crate) fn name(self) -> Option<&'static str> {
+                match self {
+                    $(Reason::$name => Some(stringify!($name)),)*
+                    _ => None,
+                }
             }
-        })*
+
+            #[cfg(test)]
+            pub(crate) const TEXTS: &'static [(Reason, &'static str)] = &[$((Reason::$name, $text)),*];
+        }
+    };
+}
+
+/// The constants of tags.
+macro_rules! universal {
+    ($($constant:ident = $number:literal;)*) => {
+        /// The tags of universal types (X.680 8.6, table 1).
+        impl Tag {
+            $(#[doc = concat!("Universal ", $number, ".")]
+            pub const $constant: Tag = Tag::universal($number);)*
+        }
+    };
+}
+
+/// A call for each bit of a KeyUsage.
+macro_rules! usages {
+    ($($call:ident = $bit:literal, $name:literal;)*) => {
+        impl KeyUsage {
+            $(#[doc = concat!("Whether it has ", $name, ".")]
+            pub fn $call(self) -> bool {
+                self.bits() & $bit != 0
+            })*
+
+            /// The names of its bits, as in RFC 5280.
+            pub fn names(self) -> impl Iterator<Item = &'static str> {
+                let names = [$(($bit, $name)),*];
+                names.into_iter().filter(move |(bit, _)| self.bits() & bit != 0).map(|(_, name)| name)
+            }
+        }
     };
 }

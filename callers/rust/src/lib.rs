@@ -45,8 +45,8 @@
 //! - Rules that need the ASN.1 type aren't checked: the order of a SET, default values, named bits. By BER the types of
 //!   a string's parts aren't either.
 //! - Readers don't join a constructed string. [`write_der`] does.
-//! - [`Writer::set`] keeps the order of its elements; [`Writer::set_of`] sorts them. A [`Writer`] also writes default
-//!   values. Only [`Writer::finish`] and [`to_vec`] report a buffer that is too small.
+//! - [`Writer::open_set`] keeps the order of its elements; [`Writer::open_set_of`] sorts them. A [`Writer`] also writes
+//!   default values. Only [`Writer::finish`] and [`to_vec`] report a buffer that is too small.
 //! - Elements are at most [`MAX_DEPTH`] deep. [`Rules::with_max_depth`] allows less.
 //!
 //! # Features
@@ -77,6 +77,8 @@ mod element;
 mod error;
 mod ffi;
 mod identifier;
+#[rustfmt::skip]
+mod numbers;
 #[cfg(feature = "pem")]
 pub mod pem;
 mod reader;
@@ -99,10 +101,11 @@ pub use ffi::Element;
 #[cfg(feature = "alloc")]
 pub use identifier::ObjectIdentifierBuf;
 pub use identifier::{oid_length, oid_octets, oid_of, Arcs, ObjectIdentifier};
+pub use numbers::Class;
 pub use reader::Reader;
 #[cfg(feature = "alloc")]
 pub use stream::Buffer;
-pub use tag::{Class, Tag};
+pub use tag::Tag;
 pub use time::{Time, Zone};
 #[cfg(feature = "alloc")]
 pub use tree::{Children, Descendants, Node, Tree};
@@ -119,6 +122,6 @@ pub use writer::Writer;
 #[doc = include_str!("guide.md")]
 pub mod guide {}
 
-#[cfg(all(doctest, feature = "std"))]
+#[cfg(all(doctest, feature = "pem"))]
 #[doc = include_str!("../README.md")]
 struct Readme;

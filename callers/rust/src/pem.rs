@@ -11,7 +11,8 @@
 //! # Ok::<(), dumarewhi::Error>(())
 //! ```
 use crate::ffi::{self, Octets};
-use crate::{Error, ErrorKind, Reason, Result};
+use crate::{check_der, Error, ErrorKind, Reason, Result};
+use alloc::borrow::Cow;
 use alloc::vec::Vec;
 use core::iter::FusedIterator;
 
@@ -27,6 +28,28 @@ pub fn blocks(text: &[u8]) -> Blocks<'_> {
         characters: alloc::vec![0; text.len()],
         octets: alloc::vec![0; text.len()],
     }
+}
+
+/// The octets of the first block with this label, or those of an input that is DER or has no block.
+///
+/// ```
+/// let text = b"-----BEGIN NULL-----\nBQA=\n-----END NULL-----\n";
+/// assert_eq!(dumarewhi::pem::decode_input(text, "NULL")?[..], [0x05, 0x00]);
+/// assert_eq!(dumarewhi::pem::decode_input(&[0x05, 0x00], "NULL")?[..], [0x05, 0x00]);
+/// assert!(dumarewhi::pem::decode_input(text, "CERTIFICATE").is_err());
+/// # Ok::<(), dumarewhi::Error>(())
+/// ```
+pub fn decode_input<'t>(input: &'t [u8], label: &str) -> Result<Cow<'t, [u8]>> {
+    if check_der(input).is_ok() || ffi::find_pem(input).is_none() {
+        return Ok(Cow::Borrowed(input));
+    }
+    for block in blocks(input) {
+        let block = block?;
+        if block.label() == label {
+            return Ok(Cow::Owned(block.into_octets()));
+        }
+    }
+    Err(Error::new(ErrorKind::Other("no block has this label"), 0))
 }
 
 /// A block of a text.

@@ -15,13 +15,13 @@ use crate::{Any, BitString, Class, Decode, Error, Integer, ObjectIdentifier, Rea
 /// // SEQUENCE { version [0] EXPLICIT INTEGER OPTIONAL, name UTF8String, critical BOOLEAN DEFAULT FALSE }
 /// let input = [0x30, 0x09, 0xa0, 0x03, 0x02, 0x01, 0x02, 0x0c, 0x02, b'h', b'i'];
 /// let mut reader = Reader::new(&input);
-/// let (version, name, critical) = reader.sequence(|r| {
+/// let (version, name, critical) = reader.open_sequence(|r| {
 ///     let version = r.optional_tagged(Tag::context(0), |r| r.u64())?;
 ///     let name = r.utf8_string()?;
 ///     let critical = r.optional(Tag::BOOLEAN, |r| r.boolean())?.unwrap_or(false);
 ///     Ok((version, name, critical))
 /// })?;
-/// reader.finish()?;
+/// reader.end()?;
 /// assert_eq!((version, name, critical), (Some(2), "hi", false));
 /// # Ok::<(), dumarewhi::Error>(())
 /// ```
@@ -65,9 +65,9 @@ values! {
     /// ```
     oid: ObjectIdentifier<'a> = OBJECT_IDENTIFIER, |octets| octets.into();
     /// Reads an OCTET STRING.
-    octet_string: &'a [u8] = OCTET_STRING, |octets| octets.into();
+    octets: &'a [u8] = OCTET_STRING, |octets| octets.into();
     /// Reads a BIT STRING.
-    bit_string: BitString<'a> = BIT_STRING, |bits| bits.into();
+    bits: BitString<'a> = BIT_STRING, |bits| bits.into();
     /// Reads a UTCTime.
     utc_time: Time = UTC_TIME, |time| time.into();
     /// Reads a GeneralizedTime.
@@ -87,7 +87,7 @@ impl<'a> Reader<'a> {
     ///
     /// let input = [0x30, 0x80, 0x02, 0x01, 0x05, 0x00, 0x00];
     /// let mut reader = Reader::with_rules(&input, Rules::BER);
-    /// assert_eq!(reader.sequence(|r| r.i64())?, 5);
+    /// assert_eq!(reader.open_sequence(|r| r.i64())?, 5);
     /// # Ok::<(), dumarewhi::Error>(())
     /// ```
     pub fn with_rules(input: &'a [u8], rules: Rules) -> Reader<'a> {
@@ -128,12 +128,12 @@ impl<'a> Reader<'a> {
     }
 
     /// Whether all octets are read.
-    pub fn is_finished(&self) -> bool {
+    pub fn is_empty(&self) -> bool {
         self.remaining().is_empty()
     }
 
     /// An error unless all octets are read.
-    pub fn finish(self) -> Result<()> {
+    pub fn end(self) -> Result<()> {
         let left = |fault: Fault| Error::new(ErrorKind::TrailingData, fault.offset);
         self.cursor.end().map_err(left)
     }
@@ -149,13 +149,13 @@ impl<'a> Reader<'a> {
     /// use dumarewhi::{Reader, Tag};
     ///
     /// let mut reader = Reader::new(&[0x02, 0x01, 0x05]);
-    /// assert_eq!(reader.peek_tag()?, Some(Tag::INTEGER));
+    /// assert_eq!(reader.peek()?, Some(Tag::INTEGER));
     /// assert_eq!(reader.i64()?, 5);
-    /// assert_eq!(reader.peek_tag()?, None);
+    /// assert_eq!(reader.peek()?, None);
     /// # Ok::<(), dumarewhi::Error>(())
     /// ```
-    pub fn peek_tag(&self) -> Result<Option<Tag>> {
-        match self.is_finished() {
+    pub fn peek(&self) -> Result<Option<Tag>> {
+        match self.is_empty() {
             true => Ok(None),
             false => self.clone().header().map(Some),
         }
@@ -180,8 +180,8 @@ impl<'a> Reader<'a> {
     fn error(&self, fault: Fault, tag: Option<Tag>) -> Error {
         let expected = self.cursor.implicit_tag().or(tag);
         let kind = match (Reason(fault.error), expected) {
-            _ if self.is_finished() && self.cursor.is_inside != 0 => ErrorKind::MissingElement,
-            (Reason::UNEXPECTED_TAG | Reason::UNEXPECTED_CLASS, expected) => match self.peek_tag() {
+            _ if self.is_empty() && self.cursor.is_inside != 0 => ErrorKind::MissingElement,
+            (Reason::UNEXPECTED_TAG | Reason::UNEXPECTED_CLASS, expected) => match self.peek() {
                 Ok(Some(actual)) => ErrorKind::UnexpectedTag { expected, actual },
                 _ => Error::of_fault(fault).kind(),
             },
@@ -192,6 +192,7 @@ impl<'a> Reader<'a> {
             {
                 ErrorKind::Value(Reason::INVALID_TIME)
             }
+            (reason @ Reason::INVALID_CHARACTER, _) => ErrorKind::Value(reason),
             _ => Error::of_fault(fault).kind(),
         };
         Error::new(kind, fault.offset)
@@ -201,7 +202,7 @@ impl<'a> Reader<'a> {
     pub(crate) fn has(&mut self, begins_with: impl FnOnce(Tag) -> bool) -> Result<bool> {
         let has = match self.cursor.implicit_tag() {
             Some(tag) => self.is_next(tag),
-            None => self.peek_tag()?.map_or(false, begins_with),
+            None => self.peek()?.map_or(false, begins_with),
         };
         if !has {
             self.cursor.implicit = 0;
@@ -278,7 +279,7 @@ impl<'a> Reader<'a> {
     }
 
     /// Reads a SEQUENCE. The function must read all its elements.
-    pub fn sequence<T>(&mut self, function: impl FnOnce(&mut Reader<'a>) -> Result<T>) -> Result<T> {
+    pub fn open_sequence<T>(&mut self, function: impl FnOnce(&mut Reader<'a>) -> Result<T>) -> Result<T> {
         self.list(Tag::SEQUENCE, Cursor::sequence, function)
     }
 
@@ -289,9 +290,9 @@ impl<'a> Reader<'a> {
     ///
     /// // SET OF INTEGER
     /// let mut reader = Reader::new(&[0x31, 0x06, 0x02, 0x01, 0x05, 0x02, 0x01, 0x07]);
-    /// let numbers = reader.set(|r| {
+    /// let numbers = reader.open_set(|r| {
     ///     let mut numbers = Vec::new();
-    ///     while !r.is_finished() {
+    ///     while !r.is_empty() {
     ///         numbers.push(r.u64()?);
     ///     }
     ///     Ok(numbers)
@@ -299,7 +300,7 @@ impl<'a> Reader<'a> {
     /// assert_eq!(numbers, [5, 7]);
     /// # Ok::<(), dumarewhi::Error>(())
     /// ```
-    pub fn set<T>(&mut self, function: impl FnOnce(&mut Reader<'a>) -> Result<T>) -> Result<T> {
+    pub fn open_set<T>(&mut self, function: impl FnOnce(&mut Reader<'a>) -> Result<T>) -> Result<T> {
         self.list(Tag::SET, Cursor::set, function)
     }
 
@@ -311,13 +312,17 @@ impl<'a> Reader<'a> {
     ///
     /// // [APPLICATION 1] IMPLICIT SEQUENCE { INTEGER, [0] EXPLICIT INTEGER }
     /// let mut reader = Reader::new(&[0x61, 0x08, 0x02, 0x01, 0x05, 0xa0, 0x03, 0x02, 0x01, 0x07]);
-    /// let pair = reader.tagged(Tag::application(1), |r| {
-    ///     Ok((r.u64()?, r.tagged(Tag::context(0), |r| r.u64())?))
+    /// let pair = reader.open_tagged(Tag::application(1), |r| {
+    ///     Ok((r.u64()?, r.open_tagged(Tag::context(0), |r| r.u64())?))
     /// })?;
     /// assert_eq!(pair, (5, 7));
     /// # Ok::<(), dumarewhi::Error>(())
     /// ```
-    pub fn tagged<T>(&mut self, tag: Tag, function: impl FnOnce(&mut Reader<'a>) -> Result<T>) -> Result<T> {
+    pub fn open_tagged<T>(
+        &mut self,
+        tag: Tag,
+        function: impl FnOnce(&mut Reader<'a>) -> Result<T>,
+    ) -> Result<T> {
         self.list(tag, |cursor| cursor.content(tag, true), function)
     }
 
@@ -333,62 +338,28 @@ impl<'a> Reader<'a> {
                 max_depth: r.rules().inside().max_depth(),
             };
             let value = function(&mut items)?;
-            items.finish()?;
+            items.end()?;
             Ok(value)
         })
     }
 
     /// The next element has this IMPLICIT tag instead of its type's. For a SEQUENCE or SET call
-    /// [`tagged`](Reader::tagged).
+    /// [`open_tagged`](Reader::open_tagged).
     ///
     /// ```
     /// use dumarewhi::{Reader, Tag};
     ///
     /// // dNSName [2] IMPLICIT IA5String
     /// let mut reader = Reader::new(&[0x82, 0x03, b'a', b'.', b'b', 0x81, 0x02, 0x00, 0x05]);
-    /// assert_eq!(reader.expect_implicit(Tag::context(2)).ia5_string()?, "a.b");
+    /// assert_eq!(reader.implicit(Tag::context(2)).ia5_string()?, "a.b");
     /// // [1] IMPLICIT INTEGER, with a leading zero that DER doesn't allow
-    /// assert!(reader.expect_implicit(Tag::context(1)).u64().is_err());
+    /// assert!(reader.implicit(Tag::context(1)).u64().is_err());
     /// # Ok::<(), dumarewhi::Error>(())
     /// ```
-    pub fn expect_implicit(&mut self, tag: Tag) -> &mut Reader<'a> {
+    pub fn implicit(&mut self, tag: Tag) -> &mut Reader<'a> {
         self.cursor.implicit = (tag.class as u32).saturating_add(1);
         self.cursor.number = tag.number;
         self
-    }
-
-    /// Reads an element with this IMPLICIT tag as one of a universal type, and checks its content as that type.
-    /// [`expect_implicit`](Reader::expect_implicit) returns the value at once.
-    ///
-    /// ```
-    /// use dumarewhi::{Reader, Tag};
-    ///
-    /// // dNSName [2] IMPLICIT IA5String
-    /// let mut reader = Reader::new(&[0x82, 0x03, b'a', b'.', b'b', 0x81, 0x02, 0x00, 0x05]);
-    /// assert_eq!(reader.implicit(Tag::context(2), Tag::IA5_STRING)?.as_str()?, "a.b");
-    /// // [1] IMPLICIT INTEGER, with a leading zero that DER doesn't allow
-    /// assert!(reader.implicit(Tag::context(1), Tag::INTEGER).is_err());
-    /// # Ok::<(), dumarewhi::Error>(())
-    /// ```
-    pub fn implicit(&mut self, tag: Tag, universal: Tag) -> Result<Any<'a>> {
-        self.clone().expect_implicit(tag).skip(universal)?;
-        self.any().map(|any| any.with_tag(universal))
-    }
-
-    /// Reads a value of a universal type by the call for it.
-    fn skip(&mut self, universal: Tag) -> Result<()> {
-        match universal {
-            Tag::BOOLEAN => self.boolean().map(drop),
-            Tag::INTEGER | Tag::ENUMERATED => self.integer().map(drop),
-            Tag::BIT_STRING => self.bit_string().map(drop),
-            Tag::OCTET_STRING => self.octet_string().map(drop),
-            Tag::NULL => self.null(),
-            Tag::OBJECT_IDENTIFIER => self.oid().map(drop),
-            Tag::SEQUENCE | Tag::SET => self.next(universal, Cursor::sequence).map(drop),
-            Tag::UTC_TIME => self.utc_time().map(drop),
-            Tag::GENERALIZED_TIME => self.generalized_time().map(drop),
-            tag => self.text(tag).map(drop),
-        }
     }
 
     /// Reads with the function if the next element has this tag.
@@ -403,19 +374,19 @@ impl<'a> Reader<'a> {
         }
     }
 
-    /// Reads as [`tagged`](Reader::tagged) if the next element has this tag.
+    /// Reads as [`open_tagged`](Reader::open_tagged) if the next element has this tag.
     pub fn optional_tagged<T>(
         &mut self,
         tag: Tag,
         function: impl FnOnce(&mut Reader<'a>) -> Result<T>,
     ) -> Result<Option<T>> {
-        self.optional(tag, |reader| reader.tagged(tag, function))
+        self.optional(tag, |reader| reader.open_tagged(tag, function))
     }
 
     /// Reads an ENUMERATED from -2^63 to 2^63-1 (X.690 8.4).
     pub fn enumerated(&mut self) -> Result<i64> {
         let tag = self.cursor.implicit_tag().unwrap_or(Tag::ENUMERATED);
-        self.attempt(|r| r.expect_implicit(tag).i64())
+        self.attempt(|r| r.implicit(tag).i64())
     }
 
     /// Reads a UTF8String.
@@ -434,23 +405,22 @@ impl<'a> Reader<'a> {
     }
 
     /// Reads a character string of any type of [`Any::as_str`].
-    pub fn string(&mut self) -> Result<&'a str> {
-        let tag = self.peek_tag()?.unwrap_or(Tag::UTF8_STRING);
+    pub fn any_text(&mut self) -> Result<&'a str> {
+        let tag = self.peek()?.unwrap_or(Tag::UTF8_STRING);
         self.text(tag)
     }
 
     /// Reads a character string of the type with this tag.
-    pub(crate) fn text(&mut self, tag: Tag) -> Result<&'a str> {
+    pub fn text(&mut self, tag: Tag) -> Result<&'a str> {
         let offset = self.offset();
         if !tag.is_text() {
             let (expected, actual) = (None, tag);
             return Err(Error::new(ErrorKind::UnexpectedTag { expected, actual }, offset));
         }
-        let actual = self.cursor.implicit_tag().unwrap_or(tag);
         self.attempt(|r| {
-            let content = r.next(actual, |cursor| cursor.content(actual, false))?;
-            tag.text_of(content.left.get())
-                .map_err(|kind| Error::new(kind, offset))
+            let text = r.next(tag, |cursor| cursor.text(tag))?;
+            core::str::from_utf8(text.get())
+                .map_err(|_| Error::new(ErrorKind::Other("the text isn't UTF-8"), offset))
         })
     }
 

@@ -1,21 +1,7 @@
 //! Tags.
-use crate::error::{with_text, ErrorKind, Reason, LONGEST_TEXT};
-use crate::ffi;
+use crate::error::{with_text, ErrorKind, Reason};
+use crate::{ffi, Class};
 use core::fmt;
-
-numbered! {
-    /// The class of a tag (X.690 8.1.2.2).
-    #[derive(Clone, Copy, Debug, PartialEq, Eq, PartialOrd, Ord, Hash)]
-    Class or Private:
-    /// The types of X.680.
-    Universal = 0,
-    /// Tags that mean one thing throughout an application.
-    Application = 1,
-    /// Tags that mean one thing in the type around them.
-    ContextSpecific = 2,
-    /// Tags of an enterprise.
-    Private = 3,
-}
 
 /// A tag: class and number. The constructed bit isn't part of it.
 ///
@@ -32,49 +18,6 @@ pub struct Tag {
     pub class: Class,
     /// The number.
     pub number: u32,
-}
-
-macro_rules! universal {
-    ($($constant:ident = $number:literal, $name:literal;)*) => {
-        impl Tag {
-            $(#[doc = concat!("The tag of ", $name, ", universal ", $number, ".")]
-            pub const $constant: Tag = Tag::universal($number);)*
-        }
-
-        #[cfg(test)]
-        const NAMED: &[(Tag, &str)] = &[$((Tag::$constant, $name)),*];
-    };
-}
-
-universal! {
-    END_OF_CONTENTS = 0, "end-of-contents";
-    BOOLEAN = 1, "BOOLEAN";
-    INTEGER = 2, "INTEGER";
-    BIT_STRING = 3, "BIT STRING";
-    OCTET_STRING = 4, "OCTET STRING";
-    NULL = 5, "NULL";
-    OBJECT_IDENTIFIER = 6, "OBJECT IDENTIFIER";
-    OBJECT_DESCRIPTOR = 7, "ObjectDescriptor";
-    EXTERNAL = 8, "EXTERNAL";
-    REAL = 9, "REAL";
-    ENUMERATED = 10, "ENUMERATED";
-    EMBEDDED_PDV = 11, "EMBEDDED PDV";
-    UTF8_STRING = 12, "UTF8String";
-    RELATIVE_OID = 13, "RELATIVE-OID";
-    SEQUENCE = 16, "SEQUENCE";
-    SET = 17, "SET";
-    NUMERIC_STRING = 18, "NumericString";
-    PRINTABLE_STRING = 19, "PrintableString";
-    TELETEX_STRING = 20, "T61String";
-    VIDEOTEX_STRING = 21, "VideotexString";
-    IA5_STRING = 22, "IA5String";
-    UTC_TIME = 23, "UTCTime";
-    GENERALIZED_TIME = 24, "GeneralizedTime";
-    GRAPHIC_STRING = 25, "GraphicString";
-    VISIBLE_STRING = 26, "VisibleString";
-    GENERAL_STRING = 27, "GeneralString";
-    UNIVERSAL_STRING = 28, "UniversalString";
-    BMP_STRING = 30, "BMPString";
 }
 
 /// A call for each class.
@@ -125,7 +68,7 @@ impl Tag {
 impl fmt::Display for Tag {
     fn fmt(&self, f: &mut fmt::Formatter<'_>) -> fmt::Result {
         let text = |text: &mut [u8]| Some(ffi::tag_text(self.class as u8, self.number, text));
-        with_text::<LONGEST_TEXT, _>(text, |text| f.pad(text)).unwrap_or(Err(fmt::Error))
+        with_text::<{ ffi::TEXT_OCTETS }, _>(text, |text| f.pad(text)).unwrap_or(Err(fmt::Error))
     }
 }
 
@@ -135,10 +78,8 @@ mod tests {
     use std::string::ToString;
 
     #[test]
-    fn names_are_those_of_the_library() {
-        for (tag, name) in NAMED {
-            assert_eq!(tag.to_string(), *name);
-        }
+    fn tags_are_shown() {
+        assert_eq!(Tag::T61_STRING.to_string(), "T61String");
         assert_eq!(Tag::universal(15).to_string(), "[UNIVERSAL 15]");
         assert_eq!(Tag::application(10).to_string(), "[APPLICATION 10]");
         assert_eq!(Tag::context(u32::MAX).to_string(), "[4294967295]");

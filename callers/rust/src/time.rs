@@ -243,8 +243,8 @@ impl From<TimeFields> for Time {
     fn from(fields: TimeFields) -> Time {
         let (hours, minutes) = (fields.zone_hours, fields.zone_minutes);
         let zone = match fields.zone {
-            ffi::ZONE_LOCAL => Zone::Local,
-            ffi::ZONE_UTC => Zone::Utc,
+            ffi::LOCAL => Zone::Local,
+            ffi::UTC => Zone::Utc,
             _ => Zone::Offset { hours, minutes },
         };
         time!(Time of fields, zone)
@@ -266,9 +266,9 @@ impl From<MomentFields> for Option<Time> {
 impl From<Time> for TimeFields {
     fn from(time: Time) -> TimeFields {
         let (zone, zone_hours, zone_minutes) = match time.zone {
-            Zone::Local => (ffi::ZONE_LOCAL, 0, 0),
-            Zone::Utc => (ffi::ZONE_UTC, 0, 0),
-            Zone::Offset { hours, minutes } => (ffi::ZONE_OFFSET, hours, minutes),
+            Zone::Local => (ffi::LOCAL, 0, 0),
+            Zone::Utc => (ffi::UTC, 0, 0),
+            Zone::Offset { hours, minutes } => (ffi::OFFSET, hours, minutes),
         };
         time!(TimeFields of time, zone, zone_hours, zone_minutes)
     }

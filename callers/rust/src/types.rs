@@ -24,7 +24,7 @@ use alloc::{string::String, vec::Vec};
 ///
 /// impl<'a> Decode<'a> for Entry<'a> {
 ///     fn decode(r: &mut Reader<'a>) -> Result<Entry<'a>> {
-///         r.sequence(|r| {
+///         r.open_sequence(|r| {
 ///             Ok(Entry {
 ///                 number: r.value()?,
 ///                 names: r.value()?,
@@ -63,11 +63,11 @@ pub trait Decode<'a>: Sized {
 
 fn read_whole<'a, T: Decode<'a>>(mut reader: Reader<'a>) -> Result<T> {
     let value = reader.value()?;
-    reader.finish()?;
+    reader.end()?;
     Ok(value)
 }
 
-/// A type that [`Writer::value`] writes. Implement it for your own types, field by field.
+/// A type that [`Writer::put`] writes. Implement it for your own types, field by field.
 ///
 /// ```
 /// use dumarewhi::{Encode, Result, Writer};
@@ -83,11 +83,11 @@ fn read_whole<'a, T: Decode<'a>>(mut reader: Reader<'a>) -> Result<T> {
 ///
 /// impl Encode for Entry {
 ///     fn encode(&self, w: &mut Writer<'_>) -> Result<()> {
-///         w.sequence(|w| {
-///             w.value(&self.number)?;
-///             w.value(&self.names)?;
-///             w.value_unless(&self.critical, &false)?;
-///             w.value(&self.note)
+///         w.open_sequence(|w| {
+///             w.put(&self.number)?;
+///             w.put(&self.names)?;
+///             w.put_default(&self.critical, &false)?;
+///             w.put(&self.note)
 ///         })
 ///     }
 /// }
@@ -114,14 +114,14 @@ impl Writer<'_> {
     /// use dumarewhi::to_vec;
     ///
     /// let octets = to_vec(|w| {
-    ///     w.value(&true)?;
-    ///     w.value(&Some(7_u64))?;
-    ///     w.value(&None::<u64>)
+    ///     w.put(&true)?;
+    ///     w.put(&Some(7_u64))?;
+    ///     w.put(&None::<u64>)
     /// })?;
     /// assert_eq!(octets, [0x01, 0x01, 0xff, 0x02, 0x01, 0x07]);
     /// # Ok::<(), dumarewhi::Error>(())
     /// ```
-    pub fn value(&mut self, value: &(impl Encode + ?Sized)) -> Result<()> {
+    pub fn put(&mut self, value: &(impl Encode + ?Sized)) -> Result<()> {
         value.encode(self)
     }
 
@@ -131,13 +131,13 @@ impl Writer<'_> {
     /// use dumarewhi::to_vec;
     ///
     /// let octets = to_vec(|w| {
-    ///     w.value_unless(&false, &false)?;
-    ///     w.value_unless(&2_u64, &0)
+    ///     w.put_default(&false, &false)?;
+    ///     w.put_default(&2_u64, &0)
     /// })?;
     /// assert_eq!(octets, [0x02, 0x01, 0x02]);
     /// # Ok::<(), dumarewhi::Error>(())
     /// ```
-    pub fn value_unless<T: Encode + PartialEq>(&mut self, value: &T, default: &T) -> Result<()> {
+    pub fn put_default<T: Encode + PartialEq>(&mut self, value: &T, default: &T) -> Result<()> {
         if value == default {
             return Ok(());
         }
@@ -186,33 +186,33 @@ macro_rules! types {
 
 types! {
     /// A BOOLEAN.
-    bool: BOOLEAN, |r| r.boolean(), |w, it| w.boolean(*it);
+    bool: BOOLEAN, |r| r.boolean(), |w, it| w.put_bool(*it);
     /// An INTEGER.
-    u16: INTEGER, |r| number(r), |w, it| w.u64((*it).into());
+    u16: INTEGER, |r| number(r), |w, it| w.put_u64((*it).into());
     /// An INTEGER.
-    u32: INTEGER, |r| number(r), |w, it| w.u64((*it).into());
+    u32: INTEGER, |r| number(r), |w, it| w.put_u64((*it).into());
     /// An INTEGER.
-    u64: INTEGER, |r| r.u64(), |w, it| w.u64(*it);
+    u64: INTEGER, |r| r.u64(), |w, it| w.put_u64(*it);
     /// An INTEGER.
-    i16: INTEGER, |r| number(r), |w, it| w.i64((*it).into());
+    i16: INTEGER, |r| number(r), |w, it| w.put_i64((*it).into());
     /// An INTEGER.
-    i32: INTEGER, |r| number(r), |w, it| w.i64((*it).into());
+    i32: INTEGER, |r| number(r), |w, it| w.put_i64((*it).into());
     /// An INTEGER.
-    i64: INTEGER, |r| r.i64(), |w, it| w.i64(*it);
-    /// An INTEGER, as [`Writer::integer`].
-    Integer<'a>: INTEGER, |r| r.integer(), |w, it| w.integer(*it)?;
+    i64: INTEGER, |r| r.i64(), |w, it| w.put_i64(*it);
+    /// An INTEGER, as [`Writer::put_integer`].
+    Integer<'a>: INTEGER, |r| r.integer(), |w, it| w.put_integer(*it)?;
     /// A NULL.
-    (): NULL, |r| r.null(), |w, _it| w.null();
+    (): NULL, |r| r.null(), |w, _it| w.put_null();
     /// An OBJECT IDENTIFIER.
-    ObjectIdentifier<'a>: OBJECT_IDENTIFIER, |r| r.oid(), |w, it| w.identifier(*it);
+    ObjectIdentifier<'a>: OBJECT_IDENTIFIER, |r| r.oid(), |w, it| w.put_oid(*it);
     /// An OBJECT IDENTIFIER.
     #[cfg(feature = "alloc")]
-    ObjectIdentifierBuf: OBJECT_IDENTIFIER, |r| r.oid().map(Self::from), |w, it| w.identifier(it.as_oid());
+    ObjectIdentifierBuf: OBJECT_IDENTIFIER, |r| r.oid().map(Self::from), |w, it| w.put_oid(it.as_oid());
     /// A BIT STRING.
-    BitString<'a>: BIT_STRING, |r| r.bit_string(), |w, it| w.bit_string(it.unused_bits(), it.raw_bytes());
+    BitString<'a>: BIT_STRING, |r| r.bits(), |w, it| w.put_bits(it.unused_bits(), it.raw_bytes());
     /// A UTF8String.
     #[cfg(feature = "alloc")]
-    String: UTF8_STRING, |r| r.utf8_string().map(String::from), |w, it| w.utf8_string(it);
+    String: UTF8_STRING, |r| r.utf8_string().map(String::from), |w, it| w.put_utf8(it);
 }
 
 fn number<'a, T: TryFrom<Integer<'a>, Error = Reason>>(r: &mut Reader<'a>) -> Result<T> {
@@ -223,12 +223,12 @@ fn number<'a, T: TryFrom<Integer<'a>, Error = Reason>>(r: &mut Reader<'a>) -> Re
 
 decodes! {
     /// An OCTET STRING.
-    &'a [u8]: OCTET_STRING, |r| r.octet_string()
+    &'a [u8]: OCTET_STRING, |r| r.octets()
 }
 
 encodes! {
     /// An OCTET STRING.
-    [u8]: |w, it| w.octet_string(it)
+    [u8]: |w, it| w.put_octets(it)
 }
 
 decodes! {
@@ -238,7 +238,7 @@ decodes! {
 
 encodes! {
     /// A UTF8String.
-    str: |w, it| w.utf8_string(it)
+    str: |w, it| w.put_utf8(it)
 }
 
 /// A UTCTime or a GeneralizedTime.
@@ -256,8 +256,8 @@ impl<'a> Decode<'a> for Time {
 impl Encode for Time {
     fn encode(&self, w: &mut Writer<'_>) -> Result<()> {
         match (self.year, self.nanosecond) {
-            (1950..=2049, 0) => w.utc_time(*self),
-            _ => w.generalized_time(*self),
+            (1950..=2049, 0) => w.put_utc_time(*self),
+            _ => w.put_generalized_time(*self),
         }
     }
 }
@@ -277,7 +277,7 @@ encodes! {
     /// The element's octets as they were read. One in BER stays in BER: [`write_der`] converts it.
     ///
     /// [`write_der`]: crate::write_der
-    Any<'a>: |w, it| w.elements(it.octets())
+    Any<'a>: |w, it| w.put_elements(it.octets())
 }
 
 /// An OPTIONAL field.
@@ -305,9 +305,9 @@ impl<T: Encode> Encode for Option<T> {
 #[cfg(feature = "alloc")]
 impl<'a, T: Decode<'a>> Decode<'a> for Vec<T> {
     fn decode(r: &mut Reader<'a>) -> Result<Vec<T>> {
-        r.sequence(|r| {
+        r.open_sequence(|r| {
             let mut values = Vec::new();
-            while !r.is_finished() {
+            while !r.is_empty() {
                 let offset = r.offset();
                 values.push(r.value()?);
                 if r.offset() == offset {
@@ -323,7 +323,7 @@ impl<'a, T: Decode<'a>> Decode<'a> for Vec<T> {
 /// A SEQUENCE OF.
 impl<T: Encode> Encode for [T] {
     fn encode(&self, w: &mut Writer<'_>) -> Result<()> {
-        w.sequence(|w| self.iter().try_for_each(|value| value.encode(w)))
+        w.open_sequence(|w| self.iter().try_for_each(|value| value.encode(w)))
     }
 }
 

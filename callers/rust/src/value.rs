@@ -193,6 +193,16 @@ impl<'a> From<BitsFields<'a>> for BitString<'a> {
     }
 }
 
+impl<'a> From<BitString<'a>> for BitsFields<'a> {
+    fn from(bits: BitString<'a>) -> BitsFields<'a> {
+        BitsFields {
+            octets: Octets::of(bits.bytes),
+            unused: bits.unused.into(),
+            is_present: 1,
+        }
+    }
+}
+
 impl<'a> From<BitsFields<'a>> for Option<BitString<'a>> {
     fn from(fields: BitsFields<'a>) -> Option<BitString<'a>> {
         (fields.is_present != 0).then(|| fields.into())

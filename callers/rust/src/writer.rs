@@ -15,11 +15,11 @@ use {crate::write::zeros, alloc::vec::Vec};
 ///
 /// // SEQUENCE { version [0] EXPLICIT INTEGER OPTIONAL, name UTF8String, critical BOOLEAN DEFAULT FALSE }
 /// fn write(w: &mut Writer<'_>, version: u64, name: &str, critical: bool) {
-///     w.sequence(|w| {
-///         w.tagged(Tag::context(0), |w| w.u64(version));
-///         w.utf8_string(name);
+///     w.open_sequence(|w| {
+///         w.open_tagged(Tag::context(0), |w| w.put_u64(version));
+///         w.put_utf8(name);
 ///         if critical {
-///             w.boolean(true);
+///             w.put_bool(true);
 ///         }
 ///     });
 /// }
@@ -37,7 +37,7 @@ use {crate::write::zeros, alloc::vec::Vec};
 /// ```
 /// use dumarewhi::{to_vec, Reason};
 ///
-/// let error = to_vec(|w| w.set(|w| w.printable_string("a@b"))).unwrap_err();
+/// let error = to_vec(|w| w.open_set(|w| w.put_printable("a@b"))).unwrap_err();
 /// assert_eq!(error.to_string(), "invalid character in string at offset 2");
 /// ```
 #[derive(Debug)]
@@ -45,12 +45,12 @@ pub struct Writer<'b> {
     fields: Fields<'b>,
 }
 
-/// Calls that write a value of one type: the arguments, and the call of the library with what it takes.
+/// Calls that write a value of one type: the arguments, and what the library's call takes.
 macro_rules! values {
-    ($($(#[$doc:meta])* $name:ident($($it:ident: $type:ty),*) = $put:ident($($value:expr),*);)*) => {
+    ($($(#[$doc:meta])* $name:ident($($it:ident: $type:ty),*) = ($($value:expr),*);)*) => {
         impl Writer<'_> {
             $($(#[$doc])* pub fn $name(&mut self, $($it: $type),*) {
-                self.fields.$put($($value),*);
+                self.fields.$name($($value),*);
             })*
         }
     };
@@ -58,43 +58,43 @@ macro_rules! values {
 
 values! {
     /// Writes elements that are encoded already. They aren't checked.
-    elements(octets: &[u8]) = put_elements(octets);
+    put_elements(octets: &[u8]) = (octets);
     /// Writes a BOOLEAN.
-    boolean(value: bool) = put_bool(value.into());
+    put_bool(value: bool) = (value.into());
     /// Writes a non-negative INTEGER.
-    u64(value: u64) = put_u64(value);
+    put_u64(value: u64) = (value);
     /// Writes an INTEGER.
-    i64(value: i64) = put_i64(value);
+    put_i64(value: i64) = (value);
     /// Writes a non-negative INTEGER of any size from big-endian octets. Leading zeros are left out.
     ///
     /// ```
     /// use dumarewhi::to_vec;
     ///
-    /// let octets = to_vec(|w| Ok(w.magnitude(&[0x00, 0x00, 0xff])))?;
+    /// let octets = to_vec(|w| Ok(w.put_magnitude(&[0x00, 0x00, 0xff])))?;
     /// assert_eq!(octets, [0x02, 0x02, 0x00, 0xff]);
     /// # Ok::<(), dumarewhi::Error>(())
     /// ```
-    magnitude(octets: &[u8]) = put_magnitude(octets);
+    put_magnitude(octets: &[u8]) = (octets);
     /// Writes a non-negative ENUMERATED.
-    enumerated(value: u64) = put_enumerated(value);
+    put_enumerated(value: u64) = (value);
     /// Writes an ENUMERATED that may be negative.
-    enumerated_i64(value: i64) = put_enumerated_i64(value);
+    put_enumerated_i64(value: i64) = (value);
     /// Writes a NULL.
-    null() = put_null();
+    put_null() = ();
     /// Writes an OBJECT IDENTIFIER with its own octets.
     ///
     /// ```
     /// use dumarewhi::{oid, to_vec};
     ///
-    /// let octets = to_vec(|w| Ok(w.identifier(oid!(2, 5, 4, 3))))?;
+    /// let octets = to_vec(|w| Ok(w.put_oid(oid!(2, 5, 4, 3))))?;
     /// assert_eq!(octets, [0x06, 0x03, 0x55, 0x04, 0x03]);
     /// # Ok::<(), dumarewhi::Error>(())
     /// ```
-    identifier(identifier: ObjectIdentifier<'_>) = put_oid(identifier.as_bytes());
+    put_oid(identifier: ObjectIdentifier<'_>) = (identifier.as_bytes());
     /// Writes an OCTET STRING.
-    octet_string(octets: &[u8]) = put_octets(octets);
+    put_octets(octets: &[u8]) = (octets);
     /// Writes a BIT STRING with at most seven unused bits at the end, which are written as 0.
-    bit_string(unused: u8, octets: &[u8]) = put_bits(unused, octets);
+    put_bits(unused: u8, octets: &[u8]) = (unused, octets);
 }
 
 impl<'b> Writer<'b> {
@@ -117,7 +117,7 @@ impl<'b> Writer<'b> {
     /// use dumarewhi::{ErrorKind, Writer};
     ///
     /// let mut writer = Writer::new(&mut []);
-    /// writer.octet_string(&[0; 200]);
+    /// writer.put_octets(&[0; 200]);
     /// assert_eq!(writer.finish().unwrap_err().kind(), ErrorKind::NoRoom { needed: 203 });
     /// ```
     pub fn finish(self) -> Result<usize> {
@@ -134,7 +134,7 @@ impl<'b> Writer<'b> {
     }
 
     /// The error with this number, if it isn't 0.
-    fn put(&self, number: u32) -> Result<()> {
+    fn checked(&self, number: u32) -> Result<()> {
         match number {
             0 => Ok(()),
             number => Err(self.error(ErrorKind::Value(Reason(number)))),
@@ -142,13 +142,13 @@ impl<'b> Writer<'b> {
     }
 
     /// Writes a SEQUENCE with the elements that the function writes.
-    pub fn sequence<T>(&mut self, function: impl FnOnce(&mut Writer<'b>) -> T) -> T {
+    pub fn open_sequence<T>(&mut self, function: impl FnOnce(&mut Writer<'b>) -> T) -> T {
         let mark = self.fields.open_sequence();
         self.inside(mark, function)
     }
 
-    /// Writes a SET with the elements that the function writes, in that order. [`set_of`](Writer::set_of) sorts them.
-    pub fn set<T>(&mut self, function: impl FnOnce(&mut Writer<'b>) -> T) -> T {
+    /// Writes a SET with the elements that the function writes, in that order. [`open_set_of`](Writer::open_set_of) sorts them.
+    pub fn open_set<T>(&mut self, function: impl FnOnce(&mut Writer<'b>) -> T) -> T {
         let mark = self.fields.open_set();
         self.inside(mark, function)
     }
@@ -160,17 +160,17 @@ impl<'b> Writer<'b> {
     /// use dumarewhi::to_vec;
     ///
     /// let octets = to_vec(|w| {
-    ///     w.set_of(|w| {
-    ///         w.u64(5);
-    ///         w.boolean(true);
-    ///         w.u64(3);
+    ///     w.open_set_of(|w| {
+    ///         w.put_u64(5);
+    ///         w.put_bool(true);
+    ///         w.put_u64(3);
     ///     });
     ///     Ok(())
     /// })?;
     /// assert_eq!(octets, [0x31, 0x09, 0x01, 0x01, 0xff, 0x02, 0x01, 0x03, 0x02, 0x01, 0x05]);
     /// # Ok::<(), dumarewhi::Error>(())
     /// ```
-    pub fn set_of<T>(&mut self, function: impl FnOnce(&mut Writer<'b>) -> T) -> T {
+    pub fn open_set_of<T>(&mut self, function: impl FnOnce(&mut Writer<'b>) -> T) -> T {
         let mark = self.fields.open_set();
         let value = function(self);
         self.fields.close_set_of(mark);
@@ -185,16 +185,16 @@ impl<'b> Writer<'b> {
     ///
     /// // [APPLICATION 1] IMPLICIT SEQUENCE { INTEGER, [0] EXPLICIT INTEGER }
     /// let octets = to_vec(|w| {
-    ///     w.tagged(Tag::application(1), |w| {
-    ///         w.u64(5);
-    ///         w.tagged(Tag::context(0), |w| w.u64(7));
+    ///     w.open_tagged(Tag::application(1), |w| {
+    ///         w.put_u64(5);
+    ///         w.open_tagged(Tag::context(0), |w| w.put_u64(7));
     ///     });
     ///     Ok(())
     /// })?;
     /// assert_eq!(octets, [0x61, 0x08, 0x02, 0x01, 0x05, 0xa0, 0x03, 0x02, 0x01, 0x07]);
     /// # Ok::<(), dumarewhi::Error>(())
     /// ```
-    pub fn tagged<T>(&mut self, tag: Tag, function: impl FnOnce(&mut Writer<'b>) -> T) -> T {
+    pub fn open_tagged<T>(&mut self, tag: Tag, function: impl FnOnce(&mut Writer<'b>) -> T) -> T {
         let mark = match tag.class {
             Class::ContextSpecific => self.fields.open_tagged(tag.number),
             class => self.fields.open(class as u8, 1, tag.number),
@@ -203,7 +203,7 @@ impl<'b> Writer<'b> {
     }
 
     /// Writes an OCTET STRING that contains the elements that the function writes.
-    pub fn octet_string_of<T>(&mut self, function: impl FnOnce(&mut Writer<'b>) -> T) -> T {
+    pub fn open_octet_string<T>(&mut self, function: impl FnOnce(&mut Writer<'b>) -> T) -> T {
         let mark = self.fields.open_octet_string();
         self.inside(mark, function)
     }
@@ -215,14 +215,14 @@ impl<'b> Writer<'b> {
     }
 
     /// The next primitive element gets this IMPLICIT tag instead of its type's. For a SEQUENCE or SET call
-    /// [`tagged`](Writer::tagged). After an error the tag is still pending. A constructed element and
-    /// [`elements`](Writer::elements) drop it.
+    /// [`open_tagged`](Writer::open_tagged). After an error the tag is still pending. A constructed element and
+    /// [`put_elements`](Writer::put_elements) drop it.
     ///
     /// ```
     /// use dumarewhi::{to_vec, Tag};
     ///
     /// // dNSName [2] IMPLICIT IA5String
-    /// let octets = to_vec(|w| w.implicit(Tag::context(2)).ia5_string("a.b"))?;
+    /// let octets = to_vec(|w| w.implicit(Tag::context(2)).put_ia5("a.b"))?;
     /// assert_eq!(octets, [0x82, 0x03, b'a', b'.', b'b']);
     /// # Ok::<(), dumarewhi::Error>(())
     /// ```
@@ -232,9 +232,9 @@ impl<'b> Writer<'b> {
     }
 
     /// Writes an INTEGER of any size. An error if its octets are padded (X.690 8.3.2).
-    pub fn integer(&mut self, value: Integer<'_>) -> Result<()> {
+    pub fn put_integer(&mut self, value: Integer<'_>) -> Result<()> {
         let put = self.fields.put_integer(value.as_bytes());
-        self.put(put)
+        self.checked(put)
     }
 
     /// Writes an OBJECT IDENTIFIER with these arcs. An error if there are fewer than two, or the first two aren't
@@ -243,29 +243,29 @@ impl<'b> Writer<'b> {
     /// ```
     /// use dumarewhi::to_vec;
     ///
-    /// assert_eq!(to_vec(|w| w.oid(&[2, 5, 4, 3]))?, [0x06, 0x03, 0x55, 0x04, 0x03]);
-    /// assert!(to_vec(|w| w.oid(&[1, 40])).is_err());
+    /// assert_eq!(to_vec(|w| w.put_arcs(&[2, 5, 4, 3]))?, [0x06, 0x03, 0x55, 0x04, 0x03]);
+    /// assert!(to_vec(|w| w.put_arcs(&[1, 40])).is_err());
     /// # Ok::<(), dumarewhi::Error>(())
     /// ```
-    pub fn oid(&mut self, arcs: &[u64]) -> Result<()> {
+    pub fn put_arcs(&mut self, arcs: &[u64]) -> Result<()> {
         let put = self.fields.put_arcs(arcs);
-        self.put(put)
+        self.checked(put)
     }
 
     /// Writes a UTF8String.
-    pub fn utf8_string(&mut self, text: &str) {
+    pub fn put_utf8(&mut self, text: &str) {
         // A `str` is UTF-8, so no error is returned.
-        let _ = self.string(Tag::UTF8_STRING, text);
+        let _ = self.put_text(Tag::UTF8_STRING, text);
     }
 
     /// Writes a PrintableString. An error if a character isn't in its set.
-    pub fn printable_string(&mut self, text: &str) -> Result<()> {
-        self.string(Tag::PRINTABLE_STRING, text)
+    pub fn put_printable(&mut self, text: &str) -> Result<()> {
+        self.put_text(Tag::PRINTABLE_STRING, text)
     }
 
     /// Writes an IA5String. An error if a character isn't in its set.
-    pub fn ia5_string(&mut self, text: &str) -> Result<()> {
-        self.string(Tag::IA5_STRING, text)
+    pub fn put_ia5(&mut self, text: &str) -> Result<()> {
+        self.put_text(Tag::IA5_STRING, text)
     }
 
     /// Writes a BMPString, two octets for each character. An error if a character has a number above 0xffff.
@@ -273,12 +273,12 @@ impl<'b> Writer<'b> {
     /// ```
     /// use dumarewhi::to_vec;
     ///
-    /// let octets = to_vec(|w| w.bmp_string("é€"))?;
+    /// let octets = to_vec(|w| w.put_bmp("é€"))?;
     /// assert_eq!(octets, [0x1e, 0x04, 0x00, 0xe9, 0x20, 0xac]);
-    /// assert!(to_vec(|w| w.bmp_string("\u{1f600}")).is_err());
+    /// assert!(to_vec(|w| w.put_bmp("\u{1f600}")).is_err());
     /// # Ok::<(), dumarewhi::Error>(())
     /// ```
-    pub fn bmp_string(&mut self, text: &str) -> Result<()> {
+    pub fn put_bmp(&mut self, text: &str) -> Result<()> {
         if text.chars().any(|character| u32::from(character) > 0xffff) {
             return Err(self.error(ErrorKind::Value(Reason::INVALID_CHARACTER)));
         }
@@ -294,27 +294,27 @@ impl<'b> Writer<'b> {
 
     /// Writes a character string of any type of [`Any::as_str`](crate::Any::as_str). An error if a character isn't in
     /// its set.
-    pub fn string(&mut self, tag: Tag, text: &str) -> Result<()> {
+    pub fn put_text(&mut self, tag: Tag, text: &str) -> Result<()> {
         if !tag.is_text() {
             return Err(self.error(ErrorKind::Other("the tag is of no type of text")));
         }
         let put = self.fields.put_text(tag.number, text.as_bytes());
-        self.put(put)
+        self.checked(put)
     }
 
     /// Writes a UTCTime. An error unless the zone is UTC and the year 1950 to 2049, without a fraction.
-    pub fn utc_time(&mut self, time: Time) -> Result<()> {
-        self.time(Tag::UTC_TIME, time)
+    pub fn put_utc_time(&mut self, time: Time) -> Result<()> {
+        self.put_time(Tag::UTC_TIME, time)
     }
 
     /// Writes a GeneralizedTime. An error unless the zone is UTC and the year at most 9999.
-    pub fn generalized_time(&mut self, time: Time) -> Result<()> {
-        self.time(Tag::GENERALIZED_TIME, time)
+    pub fn put_generalized_time(&mut self, time: Time) -> Result<()> {
+        self.put_time(Tag::GENERALIZED_TIME, time)
     }
 
-    fn time(&mut self, tag: Tag, time: Time) -> Result<()> {
+    fn put_time(&mut self, tag: Tag, time: Time) -> Result<()> {
         let put = self.fields.put_time(tag.number, &time.into());
-        self.put(put)
+        self.checked(put)
     }
 }
 
@@ -324,10 +324,10 @@ impl<'b> Writer<'b> {
 /// use dumarewhi::{check_der, to_vec};
 ///
 /// let octets = to_vec(|w| {
-///     w.sequence(|w| {
-///         w.u64(5);
-///         w.oid(&[2, 5, 4, 3])?;
-///         w.null();
+///     w.open_sequence(|w| {
+///         w.put_u64(5);
+///         w.put_arcs(&[2, 5, 4, 3])?;
+///         w.put_null();
 ///         Ok(())
 ///     })
 /// })?;

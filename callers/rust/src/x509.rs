@@ -1,16 +1,13 @@
 //! Certificates and CRLs (RFC 5280), requests (RFC 2986) and keys (RFC 5958, RFC 5915, RFC 8017).
 //!
 //! ```no_run
-//! use dumarewhi::x509::{Certificate, GeneralName, Value};
+//! use dumarewhi::x509::Certificate;
 //!
 //! let octets = std::fs::read("certificate.der")?;
 //! let certificate = Certificate::from_der(&octets)?;
 //! println!("{}, to {}", certificate.subject(), certificate.not_after());
-//! for extension in certificate.extensions() {
-//!     if let Value::SubjectAltName(names) = extension.value()? {
-//!         let names: Vec<_> = names.iter().collect();
-//!         println!("{names:?}");
-//!     }
+//! for name in certificate.extensions().subject_alt_name()?.into_iter().flatten() {
+//!     println!("{name}");
 //! }
 //! # Ok::<(), std::io::Error>(())
 //! ```
@@ -20,7 +17,6 @@
 #[macro_use]
 mod parts;
 mod extension;
-mod field;
 mod key;
 mod list;
 mod name;
@@ -28,9 +24,9 @@ mod request;
 mod rule;
 mod values;
 
+pub use crate::numbers::{Curve, Field, KeyType, RevocationReason};
 pub use crate::Error;
 pub use extension::*;
-pub use field::Field;
 pub use key::*;
 pub use list::*;
 pub use name::*;
@@ -38,41 +34,38 @@ pub use request::*;
 pub use rule::BrokenRule;
 pub use values::*;
 
-use crate::ffi::{self, BitsFields, MomentFields, Octets};
+use crate::ffi::{self, AlgorithmFields, BitsFields};
 use crate::{BitString, Integer, ObjectIdentifier, Time};
 
 parts! {
     /// A certificate (RFC 5280 4.1). The content of values of any type (parameters, attributes) isn't checked.
-    Certificate: CertificateFields as dm_certificate by read_certificate;
+    Certificate: CertificateFields by read_certificate;
     /// The encoding of tbsCertificate: the octets that are signed.
-    tbs: Octets<'a> as &'a [u8],
+    tbs as &'a [u8],
     /// The serial number.
-    serial_number: Octets<'a> as Integer<'a>,
+    serial_number as Integer<'a>,
     /// The algorithm of the signature, from the signed part.
-    signature: AlgorithmFields<'a> as Algorithm<'a>,
+    signature as Algorithm<'a>,
     /// Who signed it.
-    issuer: Octets<'a> as Name<'a>,
+    issuer as Name<'a>,
     /// Whose key it has.
-    subject: Octets<'a> as Name<'a>,
-    key_algorithm: AlgorithmFields<'a>,
-    key: BitsFields<'a>,
+    subject as Name<'a>,
     /// issuerUniqueID, of versions 2 and 3.
-    issuer_unique_id: BitsFields<'a> as Option<BitString<'a>>,
+    issuer_unique_id as Option<BitString<'a>>,
     /// subjectUniqueID, of versions 2 and 3.
-    subject_unique_id: BitsFields<'a> as Option<BitString<'a>>,
+    subject_unique_id as Option<BitString<'a>>,
     /// The extensions, if any.
-    extensions: Octets<'a> as Extensions<'a>,
+    extensions as Extensions<'a>,
     /// The algorithm of the signature.
-    signature_algorithm: AlgorithmFields<'a> as Algorithm<'a>,
+    signature_algorithm as Algorithm<'a>,
     /// The signature. It isn't verified.
-    signature_value: BitsFields<'a> as BitString<'a>,
+    signature_value as BitString<'a>,
     /// Start of validity.
-    not_before: MomentFields as Time,
+    not_before as Time,
     /// End of validity, inclusive.
-    not_after: MomentFields as Time,
+    not_after as Time,
     /// The version, 1 to 3.
-    version: u32 as u32,
-    reserved: u32,
+    version as u32,
 }
 
 impl<'a> Certificate<'a> {
@@ -102,6 +95,18 @@ impl<'a> Certificate<'a> {
         PublicKey::new(self.0.key_algorithm, self.0.key)
     }
 
+    /// Whether it is valid at this second since 1970-01-01 00:00:00 UTC. Both ends are included.
+    pub fn is_valid_at(&self, unix_seconds: u64) -> bool {
+        ffi::is_valid_at(&self.0, unix_seconds)
+    }
+
+    /// Whether it is valid by the system's clock.
+    #[cfg(feature = "std")]
+    pub fn is_valid_now(&self) -> bool {
+        let since = std::time::UNIX_EPOCH.elapsed();
+        since.map_or(false, |since| self.is_valid_at(since.as_secs()))
+    }
+
     /// The SHA-256 digest (FIPS 180-4) of all octets.
     pub fn fingerprint(&self) -> [u8; 32] {
         ffi::sha256(self.as_bytes())
@@ -110,10 +115,9 @@ impl<'a> Certificate<'a> {
 
 parts! {
     /// An algorithm (RFC 5280 4.1.1.2).
-    Algorithm: AlgorithmFields as dm_algorithm;
+    Algorithm: AlgorithmFields;
     /// Its identifier.
-    identifier: Octets<'a> as ObjectIdentifier<'a>,
-    parameters: Octets<'a>,
+    identifier as ObjectIdentifier<'a>,
 }
 
 impl<'a> Algorithm<'a> {
@@ -147,10 +151,10 @@ impl<'a> PublicKey<'a> {
     pub fn bits(&self) -> BitString<'a> {
         self.bits
     }
+
+    fn kind(&self) -> ffi::KeyKindFields {
+        ffi::key_type(&self.algorithm.0, &self.bits.into())
+    }
 }
 
-/// The structs of the library that these types have.
-pub(crate) mod fields {
-    pub(crate) use super::CertificateFields;
-    pub(crate) use super::{extension::*, key::*, list::*, name::*, request::*, values::*};
-}
+key_kind!(PublicKey);

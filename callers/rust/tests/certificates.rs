@@ -101,14 +101,14 @@ fn each_front_is_incomplete() {
 
 /// The serial number and both times, as openssl prints them.
 fn fields(certificate: &[u8]) -> dumarewhi::Result<(String, String, String)> {
-    Reader::new(certificate).sequence(|r| {
-        let fields = r.sequence(|r| {
+    Reader::new(certificate).open_sequence(|r| {
+        let fields = r.open_sequence(|r| {
             r.optional_tagged(Tag::context(0), |r| r.u64())?;
             let serial = r.integer()?.as_bytes();
             r.any()?;
             r.any()?;
-            let (start, end) = r.sequence(|r| Ok((r.time()?, r.time()?)))?;
-            while !r.is_finished() {
+            let (start, end) = r.open_sequence(|r| Ok((r.time()?, r.time()?)))?;
+            while !r.is_empty() {
                 r.any()?;
             }
             let hex: String = serial.iter().map(|octet| format!("{octet:02X}")).collect();
@@ -119,7 +119,7 @@ fn fields(certificate: &[u8]) -> dumarewhi::Result<(String, String, String)> {
             ))
         })?;
         r.any()?;
-        r.bit_string()?;
+        r.bits()?;
         Ok(fields)
     })
 }

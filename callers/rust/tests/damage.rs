@@ -137,7 +137,7 @@ fn marker(any: &Any<'_>) -> usize {
 /// Reads all fields at any depth.
 fn visit_fields(reader: &mut Reader<'_>) -> Result<usize> {
     let mut count = 0;
-    while !reader.is_finished() {
+    while !reader.is_empty() {
         let offset = reader.offset();
         let any = reader.any()?;
         assert_eq!(any.offset(), offset);

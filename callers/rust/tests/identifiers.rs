@@ -17,6 +17,8 @@ fn constants() {
     assert_eq!(oid!(2, 0).as_bytes(), [80]);
     let octets = b"\x69\x83\xf0\x9d\xa7\xeb\xcf\xde\xe0\xc7\xa1\xa7\xb2\xc0\x94\x8c\xc8\xf9\xd7\x76";
     assert_eq!(UUID.as_bytes(), octets);
+    assert_eq!(ObjectIdentifier::ANY_POLICY.as_bytes(), b"\x55\x1d\x20\x00");
+    assert_eq!(ObjectIdentifier::COMMON_NAME.to_string(), "2.5.4.3");
 }
 
 #[test]
@@ -120,7 +122,7 @@ fn as_the_library_writes_them() {
             for third in numbers {
                 let arcs = [first, second, third];
                 let own = ObjectIdentifierBuf::from_arcs(&arcs.map(u128::from));
-                let written = to_vec(|w| w.oid(&arcs));
+                let written = to_vec(|w| w.put_arcs(&arcs));
                 match (own, written) {
                     (Ok(own), Ok(written)) => assert_eq!(own.as_oid().as_bytes(), &written[2..]),
                     // Here a second arc may be above 2^64-81.

@@ -23,9 +23,9 @@ fn read(call: &str, r: &mut Reader<'_>) -> Option<Result<String>> {
         "u64" => r.u64().map(|it| it.to_string()),
         "i64" => r.i64().map(|it| it.to_string()),
         "bits" => r
-            .bit_string()
+            .bits()
             .map(|it| format!("{} {}", it.unused_bits(), spaced(it.raw_bytes()))),
-        "octets" => r.octet_string().map(spaced),
+        "octets" => r.octets().map(spaced),
         "null" => r.null().map(|()| String::from("NULL")),
         "oid" => r.oid().map(|it| match it.to_string() {
             digits if digits.starts_with('#') => format!("[{}]", spaced(it.as_bytes())),
@@ -34,7 +34,7 @@ fn read(call: &str, r: &mut Reader<'_>) -> Option<Result<String>> {
         "utf8_string" => r.utf8_string().map(String::from),
         "printable_string" => r.printable_string().map(String::from),
         "ia5_string" => r.ia5_string().map(String::from),
-        "general_string" => r.string().map(String::from),
+        "general_string" => r.any_text().map(String::from),
         "utc_time" => r.utc_time().map(shown),
         "generalized_time" => r.generalized_time().map(shown),
         "time" => r.time().map(shown),
@@ -89,8 +89,8 @@ fn rows() {
             }
             Some(Ok(found)) => {
                 assert_eq!(found, expected, "{call} {input}");
-                assert_eq!((reader.offset(), reader.is_finished()), (octets.len(), true));
-                assert_eq!(reader.finish(), Ok(()));
+                assert_eq!((reader.offset(), reader.is_empty()), (octets.len(), true));
+                assert_eq!(reader.end(), Ok(()));
             }
             Some(Err(error)) => {
                 let text = text_of(error);
@@ -115,19 +115,19 @@ type Fields = (u64, Vec<u8>, String, String);
 
 fn fields(input: &[u8]) -> Result<Fields> {
     let mut reader = Reader::new(input);
-    let found = reader.sequence(|r| {
+    let found = reader.open_sequence(|r| {
         let number = r.u64()?;
-        let octets = r.set(|r| {
-            let octets = r.octet_string()?.to_vec();
+        let octets = r.open_set(|r| {
+            let octets = r.octets()?.to_vec();
             r.null()?;
             Ok(octets)
         })?;
-        let identifier = r.tagged(Tag::context(1), |r| Ok(r.oid()?.to_string()))?;
-        let text = r.expect_implicit(Tag::context(2)).ia5_string()?;
+        let identifier = r.open_tagged(Tag::context(1), |r| Ok(r.oid()?.to_string()))?;
+        let text = r.implicit(Tag::context(2)).ia5_string()?;
         Ok((number, octets, identifier, text.into()))
     });
     match found {
-        Ok(found) => reader.finish().map(|()| found),
+        Ok(found) => reader.end().map(|()| found),
         Err(error) => {
             assert_eq!((reader.offset(), reader.remaining()), (0, input));
             Err(error)

@@ -117,7 +117,7 @@ struct Entry<'a> {
 
 impl<'a> Decode<'a> for Entry<'a> {
     fn decode(r: &mut Reader<'a>) -> Result<Entry<'a>> {
-        r.sequence(|r| {
+        r.open_sequence(|r| {
             Ok(Entry {
                 version: r.value_or(0)?,
                 name: r.value()?,
@@ -130,11 +130,11 @@ impl<'a> Decode<'a> for Entry<'a> {
 
 impl Encode for Entry<'_> {
     fn encode(&self, w: &mut Writer<'_>) -> Result<()> {
-        w.sequence(|w| {
-            w.value_unless(&self.version, &0)?;
-            w.value(&self.name)?;
-            w.value(&self.id)?;
-            w.value(&self.rest)
+        w.open_sequence(|w| {
+            w.put_default(&self.version, &0)?;
+            w.put(&self.name)?;
+            w.put(&self.id)?;
+            w.put(&self.rest)
         })
     }
 }
@@ -187,7 +187,7 @@ fn defaults_that_are_written() {
     assert_eq!(Entry::from_ber(&octets).unwrap().version, 0);
     let mut reader = Reader::with_rules(&[1, 1, 0], Rules::BER);
     assert_eq!(reader.value_or(false), Ok(false));
-    reader.finish().unwrap();
+    reader.end().unwrap();
 }
 
 #[test]

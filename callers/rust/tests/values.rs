@@ -294,8 +294,8 @@ fn constructed_octet_strings() {
     assert_eq!((any.content(), any.octets()), (&input[2..8], &input[..]));
     let mut reader = any.reader().unwrap();
     assert_eq!(
-        (reader.octet_string().unwrap(), reader.octet_string().unwrap()),
+        (reader.octets().unwrap(), reader.octets().unwrap()),
         (&b"a"[..], &b"b"[..])
     );
-    reader.finish().unwrap();
+    reader.end().unwrap();
 }

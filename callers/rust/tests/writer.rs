@@ -20,36 +20,37 @@ struct Name(&'static str, &'static str, &'static str);
 
 impl Encode for Name {
     fn encode(&self, w: &mut Writer<'_>) -> Result<()> {
-        w.tagged(Tag::application(1), |w| {
-            w.string(Tag::VISIBLE_STRING, self.0)?;
-            w.string(Tag::VISIBLE_STRING, self.1)?;
-            w.string(Tag::VISIBLE_STRING, self.2)
+        w.open_tagged(Tag::application(1), |w| {
+            w.put_text(Tag::VISIBLE_STRING, self.0)?;
+            w.put_text(Tag::VISIBLE_STRING, self.1)?;
+            w.put_text(Tag::VISIBLE_STRING, self.2)
         })
     }
 }
 
 /// Date ::= [APPLICATION 3] IMPLICIT VisibleString, in an explicit tag.
 fn date(w: &mut Writer<'_>, number: u32, text: &str) -> Result<()> {
-    w.tagged(Tag::context(number), |w| {
-        w.implicit(Tag::application(3)).string(Tag::VISIBLE_STRING, text)
+    w.open_tagged(Tag::context(number), |w| {
+        w.implicit(Tag::application(3))
+            .put_text(Tag::VISIBLE_STRING, text)
     })
 }
 
 fn child(w: &mut Writer<'_>, name: Name, born: &str) -> Result<()> {
-    w.set(|w| {
-        w.value(&name)?;
+    w.open_set(|w| {
+        w.put(&name)?;
         date(w, 0, born)
     })
 }
 
 fn record(w: &mut Writer<'_>) -> Result<()> {
-    w.tagged(Tag::application(0), |w| {
-        w.value(&Name("John", "P", "Smith"))?;
-        w.tagged(Tag::context(0), |w| w.string(Tag::VISIBLE_STRING, "Director"))?;
-        w.implicit(Tag::application(2)).u64(51);
+    w.open_tagged(Tag::application(0), |w| {
+        w.put(&Name("John", "P", "Smith"))?;
+        w.open_tagged(Tag::context(0), |w| w.put_text(Tag::VISIBLE_STRING, "Director"))?;
+        w.implicit(Tag::application(2)).put_u64(51);
         date(w, 1, "19710917")?;
-        w.tagged(Tag::context(2), |w| w.value(&Name("Mary", "T", "Smith")))?;
-        w.tagged(Tag::context(3), |w| {
+        w.open_tagged(Tag::context(2), |w| w.put(&Name("Mary", "T", "Smith")))?;
+        w.open_tagged(Tag::context(3), |w| {
             child(w, Name("Ralph", "T", "Smith"), "19571111")?;
             child(w, Name("Susan", "B", "Jones"), "19590717")
         })
@@ -81,10 +82,10 @@ fn each_size_of_a_length() {
     for size in [0, 1, 125, 126, 127, 128, 255, 256, 65_535, 65_536] {
         let content = vec![7; size];
         let octets = to_vec(|w| {
-            w.sequence(|w| {
-                w.octet_string(&content);
-                w.octet_string_of(|w| w.octet_string(&content));
-                w.bit_string(0, &content);
+            w.open_sequence(|w| {
+                w.put_octets(&content);
+                w.open_octet_string(|w| w.put_octets(&content));
+                w.put_bits(0, &content);
             });
             Ok(())
         })
@@ -92,13 +93,13 @@ fn each_size_of_a_length() {
         assert_eq!(check_der(&octets), Ok(4));
         assert_eq!(to_der(&octets).unwrap(), octets);
         let mut reader = Reader::new(&octets);
-        let read = reader.sequence(|r| {
-            let first = r.octet_string()?;
-            let second = Any::from_der(r.octet_string()?)?.as_bytes()?;
-            Ok((first, second, r.bit_string()?.raw_bytes()))
+        let read = reader.open_sequence(|r| {
+            let first = r.octets()?;
+            let second = Any::from_der(r.octets()?)?.as_bytes()?;
+            Ok((first, second, r.bits()?.raw_bytes()))
         });
         assert_eq!(read, Ok((&content[..], &content[..], &content[..])));
-        reader.finish().unwrap();
+        reader.end().unwrap();
     }
 }
 
@@ -107,24 +108,24 @@ fn each_size_of_a_length() {
 #[test]
 fn values_of_openssl() {
     let octets = to_vec(|w| {
-        w.set_of(|w| {
-            w.i64(5);
-            w.i64(3);
-            w.boolean(true);
-            w.octet_string(b"a");
+        w.open_set_of(|w| {
+            w.put_i64(5);
+            w.put_i64(3);
+            w.put_bool(true);
+            w.put_octets(b"a");
         });
-        w.enumerated_i64(-129);
-        w.enumerated_i64(128);
-        w.bmp_string("Ab")?;
-        w.implicit(Tag::context(5)).bmp_string("é€")?;
-        w.null();
+        w.put_enumerated_i64(-129);
+        w.put_enumerated_i64(128);
+        w.put_bmp("Ab")?;
+        w.implicit(Tag::context(5)).put_bmp("é€")?;
+        w.put_null();
         Ok(())
     });
     let set = b"\x31\x0c\x01\x01\xff\x02\x01\x03\x02\x01\x05\x04\x01a".as_slice();
     let numbers = b"\x0a\x02\xff\x7f\x0a\x02\x00\x80";
     let texts = b"\x1e\x04\0A\0b\x85\x04\x00\xe9\x20\xac\x05\x00";
     assert_eq!(octets.unwrap(), [set, numbers, texts].concat());
-    let beyond = to_vec(|w| w.bmp_string("\u{10000}")).unwrap_err();
+    let beyond = to_vec(|w| w.put_bmp("\u{10000}")).unwrap_err();
     assert_eq!(beyond.kind(), ErrorKind::Value(Reason::INVALID_CHARACTER));
 }
 
@@ -132,32 +133,32 @@ fn values_of_openssl() {
 #[test]
 fn values_that_were_read() {
     let octets = to_vec(|w| {
-        w.boolean(true);
-        w.i64(i64::MIN);
-        w.u64(u64::MAX);
-        w.magnitude(&[0xff; 20]);
-        w.oid(&[2, 999, 3])?;
-        w.bit_string(4, &[0x0a, 0x3f]);
-        w.utf8_string("é");
-        w.enumerated(3);
-        w.null();
+        w.put_bool(true);
+        w.put_i64(i64::MIN);
+        w.put_u64(u64::MAX);
+        w.put_magnitude(&[0xff; 20]);
+        w.put_arcs(&[2, 999, 3])?;
+        w.put_bits(4, &[0x0a, 0x3f]);
+        w.put_utf8("é");
+        w.put_enumerated(3);
+        w.put_null();
         Ok(())
     })
     .unwrap();
     let mut r = Reader::new(&octets);
     let again = to_vec(|w| {
         let mut r = r.clone();
-        w.value(&r.boolean()?)?;
-        w.value(&r.i64()?)?;
-        w.value(&r.u64()?)?;
-        w.value(&r.integer()?)?;
-        w.value(&r.oid()?)?;
-        w.value(&r.bit_string()?)?;
-        w.value(r.utf8_string()?)?;
-        w.value(&r.any()?)?;
-        w.value(&Some(r.any()?))?;
-        w.value(&None::<bool>)?;
-        r.finish()
+        w.put(&r.boolean()?)?;
+        w.put(&r.i64()?)?;
+        w.put(&r.u64()?)?;
+        w.put(&r.integer()?)?;
+        w.put(&r.oid()?)?;
+        w.put(&r.bits()?)?;
+        w.put(r.utf8_string()?)?;
+        w.put(&r.any()?)?;
+        w.put(&Some(r.any()?))?;
+        w.put(&None::<bool>)?;
+        r.end()
     });
     assert_eq!(again.unwrap(), octets);
     assert!(r.any().is_ok());
@@ -165,11 +166,11 @@ fn values_that_were_read() {
 
 #[test]
 fn lists_of_values() {
-    let octets = to_vec(|w| w.value(&[1_u32, 300][..])).unwrap();
+    let octets = to_vec(|w| w.put(&[1_u32, 300][..])).unwrap();
     assert_eq!(octets, [0x30, 7, 2, 1, 1, 2, 2, 1, 44]);
-    let octets = to_vec(|w| w.value(&["a", "b"][..])).unwrap();
+    let octets = to_vec(|w| w.put(&["a", "b"][..])).unwrap();
     assert_eq!(octets, b"\x30\x06\x0c\x01a\x0c\x01b");
-    assert_eq!(to_vec(|w| w.value(&-1_i32)).unwrap(), [2, 1, 255]);
+    assert_eq!(to_vec(|w| w.put(&-1_i32)).unwrap(), [2, 1, 255]);
 }
 
 const TIME: Time = Time {
@@ -185,12 +186,15 @@ const TIME: Time = Time {
 
 #[test]
 fn times() {
-    assert_eq!(to_vec(|w| w.utc_time(TIME)).unwrap(), b"\x17\x0d261127090500Z");
+    assert_eq!(
+        to_vec(|w| w.put_utc_time(TIME)).unwrap(),
+        b"\x17\x0d261127090500Z"
+    );
     let time = Time {
         nanosecond: 120_000_000,
         ..TIME
     };
-    let octets = to_vec(|w| w.generalized_time(time)).unwrap();
+    let octets = to_vec(|w| w.put_generalized_time(time)).unwrap();
     assert_eq!(octets, b"\x18\x1220261127090500.12Z");
     assert_eq!(Any::from_der(&octets).unwrap().as_time(), Ok(time));
 }
@@ -199,7 +203,7 @@ fn times() {
 fn refused_values() {
     let reason = |put: &dyn Fn(&mut Writer<'_>) -> Result<()>| {
         let error = to_vec(|w| {
-            w.null();
+            w.put_null();
             put(w)
         })
         .unwrap_err();
@@ -209,19 +213,19 @@ fn refused_values() {
             kind => panic!("{kind}"),
         }
     };
-    assert_eq!(reason(&|w| w.oid(&[1])), Reason::INVALID_LENGTH);
-    assert_eq!(reason(&|w| w.oid(&[3, 1])), Reason::WRONG_VALUE);
-    assert_eq!(reason(&|w| w.printable_string("a@b")), Reason::INVALID_CHARACTER);
-    assert_eq!(reason(&|w| w.ia5_string("é")), Reason::INVALID_CHARACTER);
+    assert_eq!(reason(&|w| w.put_arcs(&[1])), Reason::INVALID_LENGTH);
+    assert_eq!(reason(&|w| w.put_arcs(&[3, 1])), Reason::WRONG_VALUE);
+    assert_eq!(reason(&|w| w.put_printable("a@b")), Reason::INVALID_CHARACTER);
+    assert_eq!(reason(&|w| w.put_ia5("é")), Reason::INVALID_CHARACTER);
     let year = Time { year: 2050, ..TIME };
-    assert_eq!(reason(&|w| w.utc_time(year)), Reason::INVALID_TIME);
+    assert_eq!(reason(&|w| w.put_utc_time(year)), Reason::INVALID_TIME);
     let (hours, minutes) = (1, 0);
     let zone = Time {
         zone: Zone::Offset { hours, minutes },
         ..TIME
     };
-    assert_eq!(reason(&|w| w.generalized_time(zone)), Reason::INVALID_TIME);
-    let error = to_vec(|w| w.string(Tag::BMP_STRING, "a")).unwrap_err();
+    assert_eq!(reason(&|w| w.put_generalized_time(zone)), Reason::INVALID_TIME);
+    let error = to_vec(|w| w.put_text(Tag::BMP_STRING, "a")).unwrap_err();
     assert!(matches!(error.kind(), ErrorKind::Other(_)));
 }
 
@@ -231,26 +235,29 @@ fn implicit_tags_that_are_left() {
     let octets = |put: &dyn Fn(&mut Writer<'_>)| {
         to_vec(|w| {
             put(w.implicit(Tag::context(2)));
-            w.null();
+            w.put_null();
             Ok(())
         })
         .unwrap()
     };
-    assert_eq!(octets(&|w| assert!(w.ia5_string("é").is_err())), [0x82, 0]);
+    assert_eq!(octets(&|w| assert!(w.put_ia5("é").is_err())), [0x82, 0]);
+    assert_eq!(octets(&|w| assert!(w.put_bmp("\u{1f600}").is_err())), [0x82, 0]);
     assert_eq!(
-        octets(&|w| assert!(w.bmp_string("\u{1f600}").is_err())),
-        [0x82, 0]
+        octets(&|w| w.open_sequence(|w| w.put_null())),
+        [0x30, 2, 5, 0, 5, 0]
     );
-    assert_eq!(octets(&|w| w.sequence(|w| w.null())), [0x30, 2, 5, 0, 5, 0]);
-    assert_eq!(octets(&|w| w.set_of(|_| ())), [0x31, 0, 5, 0]);
-    assert_eq!(octets(&|w| w.octet_string_of(|_| ())), [4, 0, 5, 0]);
-    assert_eq!(octets(&|w| w.tagged(Tag::context(7), |_| ())), [0xa7, 0, 5, 0]);
-    assert_eq!(octets(&|w| w.elements(&[])), [5, 0]);
+    assert_eq!(octets(&|w| w.open_set_of(|_| ())), [0x31, 0, 5, 0]);
+    assert_eq!(octets(&|w| w.open_octet_string(|_| ())), [4, 0, 5, 0]);
+    assert_eq!(
+        octets(&|w| w.open_tagged(Tag::context(7), |_| ())),
+        [0xa7, 0, 5, 0]
+    );
+    assert_eq!(octets(&|w| w.put_elements(&[])), [5, 0]);
     let closed = to_vec(|w| {
-        w.sequence(|w| {
+        w.open_sequence(|w| {
             w.implicit(Tag::context(2));
         });
-        w.null();
+        w.put_null();
         Ok(())
     });
     assert_eq!(closed.unwrap(), [0x30, 0, 5, 0]);
@@ -262,9 +269,9 @@ fn swapped_writers() {
     let (mut first, mut second) = ([0; 16], [0; 16]);
     let mut other = Writer::new(&mut second);
     let mut writer = Writer::new(&mut first);
-    other.null();
-    writer.sequence(|w| {
-        w.null();
+    other.put_null();
+    writer.open_sequence(|w| {
+        w.put_null();
         std::mem::swap(w, &mut other);
     });
     assert!(writer.finish().is_ok());
@@ -277,14 +284,14 @@ fn functions_that_change() {
     let mut count = 0;
     let octets = to_vec(|w| {
         count += 1;
-        (0..count).for_each(|_| w.null());
+        (0..count).for_each(|_| w.put_null());
         Ok(())
     });
     assert_eq!(octets.unwrap_err().kind(), ErrorKind::NoRoom { needed: 4 });
     let mut count = 3;
     let octets = to_vec(|w| {
         count -= 1;
-        (0..count).for_each(|_| w.null());
+        (0..count).for_each(|_| w.put_null());
         Ok(())
     });
     assert_eq!(octets.unwrap(), [5, 0]);

@@ -4,7 +4,7 @@ use dumarewhi::x509::{
     AccessDescription, Attribute, AuthorityKeyIdentifier, BasicConstraints, BrokenRule, Certificate,
     CertificateList, CertificationRequest, DirectoryAttributes, DistributionPoint, EcPrivateKey,
     EncryptedPrivateKey, Error, Extension, Field, GeneralName, GeneralNames, IssuingDistributionPoint,
-    KeyPurposes, KeyUsage, Name, OrganizationIdentifier, Policy, PolicyConstraints, PolicyMappings,
+    KeyPurposes, KeyType, KeyUsage, Name, OrganizationIdentifier, Policy, PolicyConstraints, PolicyMappings,
     PrivateKey, QcStatements, RelativeName, RsaPrivateKey, RsaPublicKey, SubjectPublicKeyInfo, Subtrees,
     Timestamps, TlsFeatures, Value,
 };
@@ -73,6 +73,11 @@ fn fields() {
     );
     assert_eq!(it.public_key().algorithm().identifier(), oid!(1, 3, 101, 112));
     assert_eq!(it.public_key().algorithm().parameters(), None);
+    let key = it.public_key();
+    assert_eq!(
+        (key.key_type(), key.curve(), key.key_size()),
+        (KeyType::Ed25519, None, Some(255))
+    );
     assert_eq!(
         (it.public_key().bits().len(), it.signature_value().len()),
         (256, 512)
@@ -80,6 +85,11 @@ fn fields() {
     assert_eq!(it.signature(), it.signature_algorithm());
     assert_eq!((it.issuer_unique_id(), it.subject_unique_id()), (None, None));
     assert!(it.not_before() < it.not_after());
+    let begin = it.not_before().unix_seconds() as u64;
+    let end = it.not_after().unix_seconds() as u64;
+    let is_valid = [begin - 1, begin, end, end + 1].map(|time| it.is_valid_at(time));
+    assert_eq!(is_valid, [false, true, true, false]);
+    assert!(it.is_valid_now());
     assert!(it.as_bytes() == octets && octets[4..].starts_with(it.tbs()));
     assert_eq!(Certificate::try_from(&octets[..]), Ok(it));
     assert!(Certificate::from_strict_der(&octets).is_ok());
@@ -92,11 +102,15 @@ fn extensions() {
         None => return,
     };
     let it = Certificate::from_der(&octets).unwrap();
-    let (critical, names) = value_of(&it, oid!(2, 5, 29, 17));
-    let names = match names {
-        Value::SubjectAltName(it) => it,
-        other => panic!("{other:?}"),
-    };
+    let is_critical = |identifier| it.extensions().find(identifier).map(|it| it.is_critical());
+    let names = it.extensions().subject_alt_name().unwrap().unwrap();
+    assert!(names.dns_names().eq(["example.org"]));
+    assert!(it.extensions().dns_names().unwrap().eq(["example.org"]));
+    let shown: Vec<_> = names.iter().map(|it| it.to_string()).collect();
+    let texts =
+        "DNS:example.org IP:192.0.2.1 IP:2001:db8::1 email:a@example.org URI:https://example.org/ RID:1.2.3";
+    assert_eq!(shown.join(" "), texts);
+    assert_eq!(GeneralName::DnsName("a\nb").to_string(), r"DNS:a\nb");
     let names: Vec<_> = names.iter().collect();
     let expected = [
         GeneralName::DnsName("example.org"),
@@ -106,7 +120,8 @@ fn extensions() {
         GeneralName::Uri("https://example.org/"),
         GeneralName::RegisteredId(oid!(1, 2, 3)),
     ];
-    assert_eq!((critical, &names[..]), (true, &expected[..]));
+    assert_eq!(names, expected);
+    assert_eq!(is_critical(oid!(2, 5, 29, 17)), Some(true));
     assert_eq!(
         names[1].ip_addr(),
         Some(IpAddr::from(Ipv4Addr::new(192, 0, 2, 1)))
@@ -115,28 +130,15 @@ fn extensions() {
         names[2].ip_addr(),
         "2001:db8::1".parse::<Ipv6Addr>().ok().map(IpAddr::from)
     );
-    let (critical, usage) = value_of(&it, oid!(2, 5, 29, 15));
-    let usage = match usage {
-        Value::KeyUsage(it) => it,
-        other => panic!("{other:?}"),
-    };
-    assert!(
-        critical
-            && usage
-                .names()
-                .eq(["digitalSignature", "keyCertSign", "decipherOnly"])
-    );
-    let (critical, purposes) = value_of(&it, oid!(2, 5, 29, 37));
-    let purposes = match purposes {
-        Value::ExtendedKeyUsage(it) => it,
-        other => panic!("{other:?}"),
-    };
-    assert!(
-        !critical
-            && purposes
-                .into_iter()
-                .eq([oid!(1, 3, 6, 1, 5, 5, 7, 3, 1), oid!(1, 2, 3, 4)])
-    );
+    let usage = it.extensions().key_usage().unwrap().unwrap();
+    assert!(usage
+        .names()
+        .eq(["digitalSignature", "keyCertSign", "decipherOnly"]));
+    let purposes = it.extensions().extended_key_usage().unwrap().unwrap();
+    assert!(purposes
+        .into_iter()
+        .eq([oid!(1, 3, 6, 1, 5, 5, 7, 3, 1), oid!(1, 2, 3, 4)]));
+    assert_eq!(is_critical(oid!(2, 5, 29, 37)), Some(false));
     let constraints = Value::BasicConstraints(BasicConstraints {
         ca: true,
         path_length: Some(3),
@@ -148,6 +150,7 @@ fn extensions() {
         (false, Value::Other(b"\x16\x09a comment"))
     );
     assert_eq!(it.extensions().find(oid!(2, 5, 29, 18)), None);
+    assert_eq!(it.extensions().issuer_alt_name(), Ok(None));
 }
 
 /// Values of further extensions, as they go in.
@@ -324,6 +327,56 @@ fn extensions_of_lists_and_the_web() {
     );
 }
 
+/// The rows of keys.
+#[test]
+fn kinds_of_keys() {
+    let file = concat!(env!("CARGO_MANIFEST_DIR"), "/../c/keys.rows");
+    let text = std::fs::read_to_string(file).unwrap();
+    for row in text.lines().filter(|line| !line.starts_with('#')) {
+        let words: Vec<_> = row.split(' ').collect();
+        let octets: Vec<_> = (0..words[3].len())
+            .step_by(2)
+            .map(|at| u8::from_str_radix(&words[3][at..at + 2], 16).unwrap())
+            .collect();
+        let key = SubjectPublicKeyInfo::from_der(&octets).unwrap();
+        let of_type = format!("{:?}", key.key_type()).to_uppercase();
+        let curve = key
+            .curve()
+            .map_or("-".into(), |curve| format!("{curve:?}").to_lowercase());
+        assert_eq!(
+            (of_type, curve, key.key_size().unwrap_or(0).to_string()),
+            (
+                words[0].replace('_', ""),
+                words[1].to_lowercase(),
+                words[2].into()
+            ),
+            "{row}"
+        );
+    }
+}
+
+/// A text in UTF-8, beside the one in ASCII.
+#[test]
+fn names_in_utf8() {
+    let subject = "/CN=€\u{202e}, é";
+    let octets = match made(&["-newkey", "ed25519", "-utf8", "-subj", subject]) {
+        Some(it) => it,
+        None => return println!("left out: openssl makes no certificate"),
+    };
+    let name = Certificate::from_der(&octets).unwrap().subject();
+    assert_eq!(name.utf8().to_string(), r"CN=€\e2\80\ae\, é");
+    assert_eq!(name.to_string(), r"CN=\e2\82\ac\e2\80\ae\, \c3\a9");
+}
+
+/// PEM where DER is read.
+#[test]
+fn text_of_pem() {
+    let error = Certificate::from_der(b"-----BEGIN CERTIFICATE-----\nMIIB").unwrap_err();
+    assert_eq!(error.to_string(), Reason::PEM_INPUT.to_string());
+    let error = Certificate::from_der(b"-----BEGI").unwrap_err();
+    assert_ne!(error.to_string(), Reason::PEM_INPUT.to_string());
+}
+
 /// A private key of a curve in a file of its own, a public key of RSA, and an encrypted key, that openssl makes.
 #[test]
 fn other_keys() {
@@ -422,6 +475,20 @@ fn private_keys() {
     assert!(error.is_incomplete() && error.field() == Field::Key, "{error}");
 }
 
+/// A text with two digits behind a backslash in lower case.
+fn lowered(text: &str) -> String {
+    let mut parts = text.split('\\');
+    let mut made: String = parts.next().unwrap().into();
+    for part in parts {
+        let digits = part
+            .get(..2)
+            .filter(|it| it.bytes().all(|octet| octet.is_ascii_hexdigit()));
+        let (front, rest) = part.split_at(digits.map_or(0, str::len));
+        write!(made, "\\{}{rest}", front.to_lowercase()).unwrap();
+    }
+    made
+}
+
 /// What openssl prints of a certificate, after a name and `=`.
 fn printed<'t>(text: &'t str, name: &str) -> &'t str {
     let line = text.lines().find(|line| line.starts_with(name)).unwrap();
@@ -471,15 +538,8 @@ fn beside_openssl() {
         let digest = printed(&text, "sha256 Fingerprint").replace(':', "");
         assert_eq!(hex(&it.fingerprint()), digest);
         for (name, title) in [(it.subject(), "subject"), (it.issuer(), "issuer")] {
-            // openssl has names for more types than RFC 4514 has.
-            let own = name.to_string();
-            if !own
-                .split(',')
-                .any(|part| part.starts_with(|it: char| it.is_ascii_digit()))
-            {
-                assert_eq!(own, printed(&text, title));
-                names += 1;
-            }
+            assert_eq!(name.to_string(), lowered(printed(&text, title)));
+            names += 1;
         }
     }
     println!("{names} names as openssl writes them");
@@ -916,6 +976,8 @@ fn errors() {
         (error.kind(), error.reason()),
         (ErrorKind::Malformed(Reason::OVERRUN), Some(Reason::OVERRUN))
     );
+    let shown = "Error { kind: Malformed(OVERRUN), offset: 4, field: SerialNumber }";
+    assert_eq!(format!("{error:?}"), shown);
 }
 
 // What `callers/python/tests/certificates.c` prints.

@@ -1,10 +1,15 @@
 pub mod Certificates
+pub mod CursorTexts
+pub mod Decode
 pub mod Directory
 pub mod ExtensionLists
 pub mod ExtensionValues
 pub mod FieldNumbers
+pub mod Found
 pub mod Items
+pub mod KeyKinds
 pub mod Keys
+pub mod NameTexts
 pub mod OtherKeys
 pub mod PathExtensions
 pub mod Requests

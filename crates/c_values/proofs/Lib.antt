@@ -4,5 +4,6 @@ pub mod ExactNumbers
 pub mod Firsts
 pub mod Moments
 pub mod Puts
+pub mod RoomLaws
 pub mod TextsPut
 pub mod Within

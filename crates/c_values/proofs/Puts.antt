@@ -2,7 +2,7 @@
 use Rattle.std.proofs.Common.{◌≡◌, ℕ, zero, suc, ◌+◌, ◌-◌, ◌^◌, ◌<◌, ◌≤◌, ◌⊎◌, min, List, [], ◌∷◌, ◌++◌, length, refl, sym, ap, ◌∙◌, arith, inl, inr, length-append}
 use Rattle.der_elements.specs.Check.Overlay.{overlay}
 use Rattle.der_elements.proofs.CheckLaws.Overlays.{overlay_none, overlay_more, overlay_behind}
-use Rattle.c_values.specs.Texts.{PutsSome, PutsText}
+use Rattle.c_values.specs.Texts.{PutsText}
 
 length-overlay : (xs : List ℕ) (n : ℕ) (ys : List ℕ) → length (overlay xs n ys) ≡ length xs
 length-overlay [] n ys = refl
@@ -37,12 +37,3 @@ puts_more a b c s t i j k h p q = (
   q.0 ∙ ap (λ x. overlay x j t) p.0 ∙ overlay_stopped a s t i j h p.1,
   omega (arith, p.1, q.1, length-append s t),
 )
-
-pub some_none : (a : List ℕ) (i : ℕ) → i < 2 ^ 64 → PutsSome a i a i
-some_none a i h = ([], puts_none a i h)
-
-pub some_more : (a b c : List ℕ) (i j k : ℕ) → length a ≤ 2 ^ 64 - 1 → PutsSome a i b j → PutsSome b j c k → PutsSome a i c k
-some_more a b c i j k h p q = (p.0 ++ q.0, puts_more a b c p.0 q.0 i j k h p.1 q.1)
-
-pub some_after : (a b c t : List ℕ) (i j k : ℕ) → length a ≤ 2 ^ 64 - 1 → PutsText a i t b j → PutsSome b j c k → PutsSome a i c k
-some_after a b c t i j k h p q = some_more a b c i j k h (t, p) q

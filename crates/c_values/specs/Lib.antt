@@ -2,11 +2,13 @@ pub mod AnyElements
 pub mod Cursors
 pub mod Elements
 pub mod ErrorNumbers
+pub mod FaultTexts
 pub mod Faults
 pub mod Laws
 pub mod Outcomes
 pub mod Parts
 pub mod Pem
+pub mod Rooms
 pub mod Tested
 pub mod Texts
 pub mod Values

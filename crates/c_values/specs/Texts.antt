@@ -9,10 +9,6 @@ use Rattle.c_values.specs.ErrorNumbers.{refusal_number}
 abbrev pub PutsText : List ℕ → ℕ → List ℕ → List ℕ → ℕ → Type 0
 PutsText old at text new end = (new ≡ overlay old at text) × (end ≡ min (at + length text) (2 ^ 64 - 1))
 
--- the same of some text, which isn't said
-abbrev pub PutsSome : List ℕ → ℕ → List ℕ → ℕ → Type 0
-PutsSome old at new end = (text : List ℕ) × PutsText old at text new end
-
 -- 0, the text and its length; or the number of an error, and nothing is written
 abbrev pub ReturnsText : Option (List ℕ) → List ℕ → List ℕ → ℕ → ℕ → ℕ → Type 0
 ReturnsText (Some text) old new needed needed' number = (number ≡ 0) × PutsText old 0 text new needed'

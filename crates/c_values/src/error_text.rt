@@ -1,4 +1,7 @@
 //! Texts of errors, without the values that an error has.
+ghost use Rattle.std.specs.Prelude.{◌≡◌};
+ghost use Rattle.c_values.specs.FaultTexts.{is_pem};
+
 use crate::errors::{FIRST_CONSTRAINT, FIRST_CONTENT, FIRST_FORM, FIRST_RULE};
 use crate::fault::{
     CERTIFICATE, DmFault, FIRST_EC_FIELD, FIRST_ENCRYPTED_FIELD, FIRST_KEY_FIELD, FIRST_LIST_FIELD,
@@ -31,6 +34,12 @@ const UNEXPECTED_TAG: u32 = 7;
 /// The number of the error of an unexpected class.
 const UNEXPECTED_CLASS: u32 = 8;
 
+/// What a text of PEM begins with (RFC 7468 2).
+const PEM_MARK: &[u8] = b"-----BEGIN";
+
+/// The text of the error if an input is PEM where DER is read (`DM_ERROR_PEM_INPUT`).
+pub const PEM_INPUT: &str = "this is PEM, which dm_decode_input decodes";
+
 /// An error by its number.
 #[derive(Clone, Copy)]
 struct NumberedError(u32);
@@ -41,6 +50,13 @@ pub fn words_of_error(error: u32) -> ArrayString<LONGEST> {
     let mut words = ArrayString::<LONGEST>::new();
     let _ = write!(words, "{error}");
     words
+}
+
+/// Returns whether a fault is of an input that is PEM.
+pub fn is_pem(fault: &DmFault, input: &[u8]) -> bool
+    ensures { result ≡ is_pem fault.now input.now }
+{
+    fault.status != 0 && input.starts_with(PEM_MARK)
 }
 
 /// The text of a fault of this input, with the tag that was found if it is unexpected.
@@ -299,13 +315,14 @@ const RULES: [&str; 12] = [
 ];
 
 /// The texts of PEM errors, in the order of their numbers.
-const FORMS: [&str; 6] = [
+const FORMS: [&str; 7] = [
     "no line -----BEGIN ..-----",
     "a block without its line -----END ..-----",
     "a block whose first and last line have other labels",
     "the block is encrypted",
     "invalid base64",
     "a buffer is too small for the block",
+    PEM_INPUT,
 ];
 
 /// The fields of a certificate, in the order of their numbers.

@@ -79,7 +79,7 @@ pub(crate) fn form_number(e: FormError) -> u32
         FormError::NoEnd => FIRST_FORM + 1,
         FormError::LabelsDiffer => FIRST_FORM + 2,
         FormError::Encrypted => FIRST_FORM + 3,
-        FormError::Base64 => FIRST_FORM + 4,
+        FormError::Base64(_) => FIRST_FORM + 4,
         FormError::OutOfMemory => FIRST_FORM + 5,
         // No reader of PEM returns one of these.
         FormError::LooksLike(_) | FormError::Hex => 0,

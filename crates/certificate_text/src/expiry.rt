@@ -9,10 +9,10 @@ use std::fmt;
 use x509::Time;
 
 /// The seconds of a day.
-const DAY: u64 = 86400;
+pub const DAY: u64 = 86400;
 
 /// The number of the day 1970-01-01, by `day_of`.
-const EPOCH: u64 = 719_469;
+pub const EPOCH: u64 = 719_469;
 
 /// A number of days.
 #[derive(Clone, Copy)]
@@ -65,7 +65,7 @@ fn write_expiry<W: fmt::Write>(
 }
 
 /// The seconds from the start of day 0 to a time.
-fn second_of(moment: ASN1DateTime) -> u64
+pub fn second_of(moment: ASN1DateTime) -> u64
     ensures { result ≡ second_of moment }
 {
     let hours = day_of(moment) * 24 + u64::from(moment.hour);

@@ -5,7 +5,7 @@
 mod algorithm;
 mod certificate;
 mod curve_key;
-mod expiry;
+pub mod expiry;
 mod field;
 mod identifier;
 mod key;

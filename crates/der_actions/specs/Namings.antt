@@ -1,5 +1,6 @@
 -- The type that names the elements of an input, and whether the input has it.
-use Rattle.std.specs.Prelude.{◌≡◌, ℕ, Bool, true, false, Option, Some, None, List, [], ◌∷◌}
+use Rattle.std.specs.Prelude.{◌≡◌, ℕ, Bool, true, false, Option, Some, None, List, [], ◌∷◌, map}
+use Rattle.std.specs.Char.{to_ascii_lowercase}
 use Rattle.der_base.specs.declared.rules.Rules.{Rules}
 use Rattle.der_actions.specs.declared.options.Action.{Action}
 use Rattle.der_actions.specs.declared.options.Action.TheVariants.{Tree, Check, Json, Canon, Get, Show}
@@ -66,7 +67,11 @@ abbrev pub by_type : Option Schema → Option Naming
 by_type None = None
 by_type (Some schema) = Some (By schema)
 
--- the naming with the first known type of this name; None if there is none
+-- two names have the same letters, in any case
+abbrev pub SameLetters : List ℕ → List ℕ → Type 0
+SameLetters name other = map to_ascii_lowercase name ≡ map to_ascii_lowercase other
+
+-- the naming with the first known type of this name, in any case of its letters; None if there is none
 abbrev pub IsByName : KnownTypes → List ℕ → Option Naming → Type 0
 IsByName types name n =
-    (s : Option Schema) × IsFirstIn (λ k. k.name.now ≡ name) types s × (n ≡ by_type s)
+    (s : Option Schema) × IsFirstIn (λ k. SameLetters k.name.now name) types s × (n ≡ by_type s)

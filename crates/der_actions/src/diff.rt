@@ -1,20 +1,26 @@
 //! The elements in which two inputs differ.
-ghost use Rattle.std.specs.Prelude.{◌≡◌, ◌↔◌, IfOk, IsTrue, List, MatchOption, [], if◌then◌else◌, map};
-ghost use Rattle.der_actions.specs.Differences.{AreElementsOf, Compares, compared, is_entered};
+ghost use Rattle.std.specs.Prelude.{◌≡◌, ◌≤◌, ◌↔◌, ◌∷◌, IfOk, IsTrue, List, MatchOption, OnOk, [], length};
+ghost use Rattle.std.specs.Prelude.{if◌then◌else◌, map, slice_range, ℕ};
+ghost use Rattle.std.specs.Io.KnownBytes.{Appends};
+ghost use Rattle.der_actions.specs.Differences.{AreElementsOf, Compares, IsLineBehind, IsNoSide, WritesChanges};
+ghost use Rattle.der_actions.specs.Differences.{WritesDifference, compared, is_entered, outlined, style_behind};
+ghost use Rattle.der_actions.specs.Namings.{IsAsAsked};
 ghost use Rattle.der_actions.specs.Outputs.{IsRefusedAfter};
 ghost use Rattle.der_elements.specs.Visits.{Visited};
 ghost use Rattle.der_print.specs.Texts.{content_of};
 
+use crate::fields::{Field, Fields};
+use crate::naming::{is_as_asked, schema_of};
 use crate::options::Options;
 use crate::origin::Origin;
-use crate::report::report;
+use crate::pairing::partners_of;
+use crate::report::{report, report_type};
 use der_elements::{Element, Walk};
-use der_print::{Limit, Room, Style, octets_or_none, write_named_line};
-use oid_names::OwnNames;
-use std::alloc::{AllocError, Global};
-use std::cmp::Ordering;
+use der_print::{Limit, Room, Style, octets_or_none};
+use std::alloc::Global;
 use std::io;
 use std::io::Write;
+use text_json::fields::{Exposure, write_exposed};
 
 /// Two inputs and their names.
 #[derive(Clone, Copy)]
@@ -24,6 +30,13 @@ pub struct Sides<'a> {
     pub new: &'a [u8],
 }
 
+/// An element, and what the type of its input tells about it.
+#[derive(Clone, Copy)]
+pub(crate) struct NamedElement<'a> {
+    pub element: Element<'a>,
+    pub field: Field,
+}
+
 /// Whether two inputs differ.
 #[derive(Clone, Copy, Debug, PartialEq)]
 pub enum Difference {
@@ -31,8 +44,8 @@ pub enum Difference {
     Different,
 }
 
-/// Compares the elements of two inputs, and prints those that differ as lines of a tree: after `-` one of the old
-/// input, after `+` one of the new. None if an input isn't valid, which is reported.
+/// Compares the elements of two inputs, and writes those that differ as lines of a tree: after `-` one of the old input,
+/// after `+` one of the new. None if an input isn't valid or doesn't have the type of the options, which is reported.
 pub fn compare<W: Write, X: Write>(
     alloc: Global,
     options: &Options<'_>,
@@ -40,40 +53,66 @@ pub fn compare<W: Write, X: Write>(
     out: &mut W,
     err: &mut X,
 ) -> io::Result<Option<Difference>>
-    ensures { IfOk result (Compares options.now sides.entry.old.now sides.entry.new.now) }
+    ensures finds { IfOk result (Compares options.now sides.entry.old.now sides.entry.new.now) }
+    ensures writes { IfOk result (WritesDifference options.now sides.entry.old.now sides.entry.new.now
+        (W.contents out.old) (W.contents out.new)) }
 {
-    let Some(old) = elements_of(alloc, options, sides.names.0, sides.old, err)? else {
+    let Some(old) = side_of(alloc, options, sides.names.0, sides.old, err)? else {
         return Ok(None);
     };
-    let Some(new) = elements_of(alloc, options, sides.names.1, sides.new, err)? else {
+    let Some(new) = side_of(alloc, options, sides.names.1, sides.new, err)? else {
         return Ok(None);
     };
     if are_alike(&old, &new) {
         return Ok(Some(Difference::Same));
     }
-    print_differences(alloc, options, &old, &new, out)?;
+    write_changes(alloc, options, &old, &new, out)?;
     Ok(Some(Difference::Different))
+}
+
+/// The elements of an input. None if it isn't valid or doesn't have the type of the options, which is reported.
+fn side_of<'a, X: Write>(
+    alloc: Global,
+    options: &Options<'_>,
+    name: &str,
+    octets: &'a [u8],
+    err: &mut X,
+) -> io::Result<Option<Vec<NamedElement<'a>>>>
+    ensures { IfOk result (λ r. MatchOption r (IsNoSide options.now octets.now)
+        (λ elements. AreElementsOf options.now octets.now elements.items)) }
+{
+    let origin = Origin { name, block: None };
+    if is_as_asked(options.naming, options.rules, octets) {
+        return elements_of(alloc, options, origin, octets, err);
+    }
+    report_type(options, origin, octets, err)?;
+    Ok(None)
 }
 
 /// The elements of an input. None if it isn't valid, which is reported.
 fn elements_of<'a, X: Write>(
     alloc: Global,
     options: &Options<'_>,
-    name: &str,
+    origin: Origin<'_>,
     octets: &'a [u8],
     err: &mut X,
-) -> io::Result<Option<Vec<Element<'a>>>>
+) -> io::Result<Option<Vec<NamedElement<'a>>>>
     ensures { IfOk result (λ r. MatchOption r ((vs : List Visited) × IsRefusedAfter options.now octets.now vs)
-        (λ elements. AreElementsOf options.now octets.now elements.items)) }
+        (λ elements. IsAsAsked options.now.naming options.now.rules octets.now
+        → AreElementsOf options.now octets.now elements.items)) }
 {
     let mut walk = Walk::new(octets, options.rules, options.enters_strings).keeping_values();
+    let mut fields = Fields::new(octets, schema_of(options.naming, options.rules, octets));
     let mut kept = Vec::new(alloc);
     'elements: loop {
         match walk.next_element() {
-            Ok(Some(element)) => kept.push(element)?,
+            Ok(Some(element)) => {
+                let field = fields.field_of(&element);
+                kept.push(NamedElement { element, field })?;
+            }
             Ok(None) => return Ok(Some(kept)),
             Err(refusal) => {
-                report(Origin { name, block: None }, &walk, &refusal, err)?;
+                report(origin, &walk, &refusal, err)?;
                 return Ok(None);
             }
         }
@@ -81,7 +120,7 @@ fn elements_of<'a, X: Write>(
 }
 
 /// Whether two lists of elements are alike, element by element.
-fn are_alike(old: &[Element<'_>], new: &[Element<'_>]) -> bool
+fn are_alike(old: &[NamedElement<'_>], new: &[NamedElement<'_>]) -> bool
     ensures { IsTrue result ↔ (map compared old.now ≡ map compared new.now) }
 {
     if old.len() != new.len() {
@@ -96,9 +135,10 @@ fn are_alike(old: &[Element<'_>], new: &[Element<'_>]) -> bool
 }
 
 /// Whether two elements have the same depth, class, number and form, and the same content unless it is elements.
-fn is_alike(old: &Element<'_>, new: &Element<'_>) -> bool
+fn is_alike(old: &NamedElement<'_>, new: &NamedElement<'_>) -> bool
     ensures { IsTrue result ↔ (compared old.now ≡ compared new.now) }
 {
+    let (old, new) = (&old.element, &new.element);
     old.depth == new.depth
         && old.class == new.class
         && old.number == new.number
@@ -108,7 +148,7 @@ fn is_alike(old: &Element<'_>, new: &Element<'_>) -> bool
 }
 
 /// The content octets of an element. Empty if they are elements.
-fn own_content<'a>(element: &Element<'a>) -> &'a [u8]
+pub(crate) fn own_content<'a>(element: &Element<'a>) -> &'a [u8]
     ensures { result.now ≡ (if is_entered element.now.constructed element.now.holds then []
         else content_of element.now) }
 {
@@ -118,117 +158,157 @@ fn own_content<'a>(element: &Element<'a>) -> &'a [u8]
     octets_or_none(element.content)
 }
 
-/// Prints the elements that differ, or that only one input has. Two elements with the same indexes are compared.
-fn print_differences<W: Write>(
+/// Writes the changes that turn the old elements into the new ones.
+fn write_changes<W: Write>(
     alloc: Global,
     options: &Options<'_>,
-    old: &[Element<'_>],
-    new: &[Element<'_>],
+    old: &[NamedElement<'_>],
+    new: &[NamedElement<'_>],
     out: &mut W,
-) -> io::Result<()> {
-    let style = behind_sign(options.style);
-    let own = options.own_names;
-    let mut left = Side::new(alloc, old);
-    let mut right = Side::new(alloc, new);
+) -> io::Result<()>
+    ensures { OnOk result (WritesChanges options.now old.now new.now (W.contents out.old) (W.contents out.new)) }
+{
+    let partners = partners_of(alloc, old, new)?;
     let mut room = Room::new(alloc);
-    for _ in 0..old.len().saturating_add(new.len()) {
-        left.enter()?;
-        right.enter()?;
-        let Some(order) = left.order(&right) else {
-            return Ok(());
-        };
-        let are_alike = order == Ordering::Equal && left.is_alike(&right);
-        if order != Ordering::Greater {
-            left.pass(are_alike, b"- ", &mut room, style, own, out)?;
+    let mut passed = 0;
+    for index in 0..old.len() {
+        let partner = partners.get(index).copied().flatten();
+        passed = pass(options, &old[index], new, passed, partner, &mut room, out)?;
+    }
+    write_added(options, &new[passed..], &mut room, out)
+}
+
+/// Writes the changes from an old element to new ones, behind those that were passed: up to its partner, if that isn't
+/// one of these. Returns how many are passed then.
+fn pass<W: Write>(
+    options: &Options<'_>,
+    element: &NamedElement<'_>,
+    new: &[NamedElement<'_>],
+    passed: usize,
+    partner: Option<usize>,
+    room: &mut Room,
+    out: &mut W,
+) -> io::Result<usize>
+    requires { passed ≤ length new.now }
+    ensures { IfOk result (λ n. (passed ≤ n) × (n ≤ length new.now)
+        × WritesChanges options.now (element.now ∷ []) (slice_range new.now passed n)
+        (W.contents out.old) (W.contents out.new)) }
+{
+    match partner {
+        Some(partner) if passed <= partner && partner < new.len() => {
+            write_added(options, &new[passed..partner], room, out)?;
+            write_pair(options, element, &new[partner], room, out)?;
+            Ok(partner + 1)
         }
-        if order != Ordering::Less {
-            right.pass(are_alike, b"+ ", &mut room, style, own, out)?;
+        _ => {
+            write_removed(options, element, room, out)?;
+            Ok(passed)
         }
+    }
+}
+
+/// Writes the changes from an element to another: nothing if they are alike.
+fn write_pair<W: Write>(
+    options: &Options<'_>,
+    old: &NamedElement<'_>,
+    new: &NamedElement<'_>,
+    room: &mut Room,
+    out: &mut W,
+) -> io::Result<()>
+    ensures { OnOk result (WritesChanges options.now (old.now ∷ []) (new.now ∷ []) (W.contents out.old)
+        (W.contents out.new)) }
+{
+    if is_alike(old, new) {
+        return Ok(());
+    }
+    write_removed(options, old, room, out)?;
+    write_one_added(options, new, room, out)
+}
+
+/// Writes a line for each element that only the new input has.
+fn write_added<W: Write>(
+    options: &Options<'_>,
+    new: &[NamedElement<'_>],
+    room: &mut Room,
+    out: &mut W,
+) -> io::Result<()>
+    ensures { OnOk result (WritesChanges options.now [] new.now (W.contents out.old) (W.contents out.new)) }
+{
+    for index in 0..new.len() {
+        write_one_added(options, &new[index], room, out)?;
     }
     Ok(())
 }
 
-/// The number of columns for a sign and a space.
-const SIGN: usize = 2;
+/// Writes the line of an element that only the new input has.
+fn write_one_added<W: Write>(
+    options: &Options<'_>,
+    element: &NamedElement<'_>,
+    room: &mut Room,
+    out: &mut W,
+) -> io::Result<()>
+    ensures { OnOk result (WritesChanges options.now [] (element.now ∷ []) (W.contents out.old)
+        (W.contents out.new)) }
+{
+    write_behind(b"+ ", options, element, room, out)
+}
 
-/// The style of a line after a sign.
-fn behind_sign(style: Style) -> Style {
+/// Writes the line of an element that only the old input has.
+fn write_removed<W: Write>(
+    options: &Options<'_>,
+    element: &NamedElement<'_>,
+    room: &mut Room,
+    out: &mut W,
+) -> io::Result<()>
+    ensures { OnOk result (WritesChanges options.now (element.now ∷ []) [] (W.contents out.old)
+        (W.contents out.new)) }
+{
+    write_behind(b"- ", options, element, room, out)
+}
+
+/// Writes a sign, and the line of an element.
+fn write_behind<W: Write>(
+    sign: &[u8],
+    options: &Options<'_>,
+    element: &NamedElement<'_>,
+    room: &mut Room,
+    out: &mut W,
+) -> io::Result<()>
+    ensures { OnOk result ((text : List ℕ) × IsLineBehind sign.now options.now element.now text
+        × Appends (W.contents out.old) (W.contents out.new) text) }
+{
+    out.write_all(sign)?;
+    let style = style_behind(sign, options.style);
+    let field = element.field;
+    let exposure = outlined(field.exposure);
+    write_exposed(
+        out,
+        room,
+        &element.element,
+        field.name,
+        exposure,
+        style,
+        options.own_names,
+    )
+}
+
+/// How much of an element that differs may be printed: also of one inside a secret the outline.
+fn outlined(exposure: Exposure) -> Exposure
+    ensures { result ≡ outlined exposure }
+{
+    match exposure {
+        Exposure::Full => Exposure::Full,
+        Exposure::Outline | Exposure::Nothing => Exposure::Outline,
+    }
+}
+
+/// The style of a line behind a sign.
+fn style_behind(sign: &[u8], style: Style) -> Style
+    ensures { result ≡ style_behind sign.now style }
+{
     let limit = match style.limit {
-        Limit::Columns(columns) => Limit::Columns(columns.saturating_sub(SIGN)),
+        Limit::Columns(columns) => Limit::Columns(columns.saturating_sub(sign.len())),
         limit => limit,
     };
     Style { limit, ..style }
-}
-
-/// The elements of an input. The first ones were compared.
-#[derive(Drop)]
-struct Side<'a, 'e> {
-    elements: &'e [Element<'a>],
-    /// The number of elements that were compared.
-    at: usize,
-    /// The indexes of the steps to the next element.
-    indexes: Vec<usize>,
-}
-
-impl<'a, 'e> Side<'a, 'e> {
-    fn new(alloc: Global, elements: &'e [Element<'a>]) -> Side<'a, 'e> {
-        Side {
-            elements,
-            at: 0,
-            indexes: Vec::new(alloc),
-        }
-    }
-
-    /// Sets the indexes to those of the next element.
-    fn enter(&mut self) -> Result<(), AllocError> {
-        if let Some(element) = self.elements.get(self.at) {
-            self.indexes.truncate(element.depth);
-            self.indexes.push(element.index)?;
-        }
-        Ok(())
-    }
-
-    /// Whose next element comes first, by the indexes. None if neither side has one left.
-    fn order(&self, other: &Side<'_, '_>) -> Option<Ordering> {
-        match (self.is_at_end(), other.is_at_end()) {
-            (true, true) => None,
-            (false, true) => Some(Ordering::Less),
-            (true, false) => Some(Ordering::Greater),
-            (false, false) => Some(self.indexes.as_slice().cmp(other.indexes.as_slice())),
-        }
-    }
-
-    /// Whether all elements were compared.
-    fn is_at_end(&self) -> bool {
-        self.at >= self.elements.len()
-    }
-
-    /// Whether the next elements are alike.
-    fn is_alike(&self, other: &Side<'_, '_>) -> bool {
-        match (self.elements.get(self.at), other.elements.get(other.at)) {
-            (Some(old), Some(new)) => is_alike(old, new),
-            _ => false,
-        }
-    }
-
-    /// Moves past the next element, and prints its line after a sign unless it is alike.
-    fn pass<'n, W: Write>(
-        &mut self,
-        is_alike: bool,
-        sign: &[u8],
-        room: &mut Room,
-        style: Style,
-        own: Option<&'n OwnNames<'n>>,
-        out: &mut W,
-    ) -> io::Result<()> {
-        let Some(next) = self.elements.get(self.at) else {
-            return Ok(());
-        };
-        self.at = self.at.saturating_add(1);
-        if is_alike {
-            return Ok(());
-        }
-        out.write_all(sign)?;
-        write_named_line(out, room, next, style, own)
-    }
 }

@@ -69,7 +69,7 @@ fn write_first<W: Write, X: Write>(
                 }
             }
             Ok(None) => {
-                report_missing(options.place, origin, err)?;
+                report_missing(alloc, options, origin, octets, err)?;
                 return Ok(false);
             }
             Err(refusal) => {

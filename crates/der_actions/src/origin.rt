@@ -22,6 +22,24 @@ pub struct BlockName<'a> {
     pub shown: &'a str,
 }
 
+impl Origin<'_> {
+    /// The format of a block that isn't ASN.1, by its label.
+    pub(crate) fn other_format(&self) -> Option<&'static str> {
+        match self.block {
+            Some(block) if block.shown == "OPENSSH PRIVATE KEY" => Some("OpenSSH's own format"),
+            _ => None,
+        }
+    }
+
+    /// Whether OpenSSL's trust settings may follow a certificate, by the label of the block.
+    pub fn is_trusted(&self) -> bool {
+        match self.block {
+            Some(block) => block.shown == "TRUSTED CERTIFICATE",
+            None => false,
+        }
+    }
+}
+
 impl fmt::Display for Origin<'_> {
     fn fmt<W: fmt::Write>(&self, f: &mut fmt::Formatter<W>) -> fmt::Result {
         let name = Name(self.name);

@@ -8,6 +8,7 @@ ghost use Rattle.der_elements.specs.Visits.{Visited};
 ghost use Rattle.der_elements.specs.Walked.{visited_of};
 
 use crate::fields::Fields;
+use crate::name::Name;
 use crate::trail::Trail;
 use der_elements::Element;
 use std::alloc::{AllocError, Global};
@@ -25,20 +26,9 @@ pub enum Place<'a> {
 impl fmt::Display for Place<'_> {
     fn fmt<W: fmt::Write>(&self, f: &mut fmt::Formatter<W>) -> fmt::Result {
         match self {
-            Place::Path(path) => write!(f, "no element has the path {path}"),
+            Place::Path(path) => write!(f, "no element has the path {}", Name(path)),
             Place::Offset(offset) => write!(f, "no element begins at {offset}"),
         }
-    }
-}
-
-/// The place that an argument gives: `@` and an offset, or a path.
-pub fn place_named(word: &str) -> Place<'_> {
-    match word
-        .strip_prefix('@')
-        .and_then(|digits| digits.parse::<usize>().ok())
-    {
-        Some(offset) => Place::Offset(offset),
-        None => Place::Path(word),
     }
 }
 

@@ -92,7 +92,7 @@ pub fn print_lines<W: Write, X: Write>(
                     alloc, options, printed, visit, &fields, &mut kept, &element, out,
                 )?;
             }
-            Ok(None) => return report_end(options, origin, octets, &listing, out, err),
+            Ok(None) => return report_end(alloc, options, origin, octets, &listing, out, err),
             Err(refusal) => return report_refusal(origin, &walk, &refusal, out, err),
         }
     }

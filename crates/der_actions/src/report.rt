@@ -5,6 +5,7 @@ ghost use Rattle.der_actions.specs.Namings.{IsAsAsked};
 ghost use Rattle.der_actions.specs.Outputs.{AreSomeElements};
 ghost use Rattle.der_actions.specs.declared.options.Action.{Action};
 
+use crate::hint::{likely_paths, write_hint};
 use crate::listing::Listing;
 use crate::name::Name;
 use crate::naming::is_as_asked;
@@ -16,6 +17,7 @@ use der_elements::{MAX_DEPTH, Path, Reason, Refusal, Rules, Walk};
 use der_input::FormError;
 use der_known::KnownTypes;
 use der_schema::Schema;
+use std::alloc::Global;
 use std::io;
 use std::io::Write;
 use text_json::fields::{Named, fit_of};
@@ -65,7 +67,7 @@ pub fn report_fault<W: Write>(
     let mut walk = Walk::new(octets, rules, false);
     match walk.find_fault() {
         Some(refusal) => report(origin, &walk, &refusal, out)?,
-        None if octets.is_empty() => report_missing(None, origin, out)?,
+        None if octets.is_empty() => report_empty(origin, out)?,
         None => return Ok(false),
     }
     Ok(true)
@@ -99,6 +101,7 @@ pub fn refuse_form<W: Write, X: Write>(
 /// Reports at the end of a walk that no element was listed, or that the input doesn't have the type of the options.
 /// Returns whether there was nothing to report.
 pub(crate) fn report_end<W: Write, X: Write>(
+    alloc: Global,
     options: &Options<'_>,
     origin: Origin<'_>,
     octets: &[u8],
@@ -114,7 +117,7 @@ pub(crate) fn report_end<W: Write, X: Write>(
 {
     if !listing.has_some() {
         out.flush()?;
-        report_missing(options.place, origin, err)?;
+        report_missing(alloc, options, origin, octets, err)?;
         return Ok(false);
     }
     if is_as_asked(options.naming, options.rules, octets) {
@@ -200,16 +203,41 @@ pub(crate) fn report_refusal<W: Write, X: Write>(
     Ok(false)
 }
 
-/// Reports that there is no element at a place, or that the input is empty.
+/// Reports that there is no element at the place of the options, or that the input is empty.
 pub(crate) fn report_missing<X: Write>(
-    place: Option<Place<'_>>,
+    alloc: Global,
+    options: &Options<'_>,
     origin: Origin<'_>,
+    octets: &[u8],
     err: &mut X,
 ) -> io::Result<()> {
-    match place {
-        Some(place) => writeln!(err, "der: {origin}: {place}"),
-        None => writeln!(err, "der: {origin}: the input is empty"),
+    match options.place {
+        Some(place) => report_place_missing(alloc, options, place, origin, octets, err),
+        None => report_empty(origin, err),
     }
+}
+
+/// Reports that the input is empty.
+fn report_empty<X: Write>(origin: Origin<'_>, err: &mut X) -> io::Result<()> {
+    writeln!(err, "der: {origin}: the input is empty")
+}
+
+/// Reports that there is no element at a place, and the paths that may be meant.
+fn report_place_missing<X: Write>(
+    alloc: Global,
+    options: &Options<'_>,
+    place: Place<'_>,
+    origin: Origin<'_>,
+    octets: &[u8],
+    err: &mut X,
+) -> io::Result<()> {
+    let likely = match place {
+        Place::Path(path) => likely_paths(alloc, options, octets, path)?,
+        Place::Offset(_) => Vec::new(alloc),
+    };
+    write!(err, "der: {origin}: {place}")?;
+    write_hint(&likely, err)?;
+    writeln!(err, "")
 }
 
 /// Reports where and why a walk stopped with an error.
@@ -228,7 +256,7 @@ pub(crate) fn report<X: Write>(
     )
 }
 
-/// Reports where and why an input isn't valid.
+/// Reports where and why an input isn't valid, or that its format isn't ASN.1.
 pub(crate) fn report_place<X: Write>(
     origin: Origin<'_>,
     offset: usize,
@@ -236,6 +264,9 @@ pub(crate) fn report_place<X: Write>(
     reason: Reason<'_>,
     err: &mut X,
 ) -> io::Result<()> {
+    if let Some(format) = origin.other_format() {
+        return writeln!(err, "der: {origin}: {format} isn't ASN.1");
+    }
     if path.is_empty() {
         return writeln!(err, "der: {origin}: at {offset}: {reason}");
     }

@@ -1,6 +1,7 @@
 //! A text of elements that can be edited, and back to octets (docs/TEXT.md).
 ghost use Rattle.std.specs.Prelude.{◌≡◌, IfOk, IsErr, IsTrue, List, Ok, OnOk, false, ℕ};
 ghost use Rattle.std.specs.Io.KnownBytes.{Appends};
+ghost use Rattle.der_text.specs.Looks.{ElementsText};
 ghost use Rattle.der_text.specs.Texts.{octets_of_text};
 
 use crate::name::Name;
@@ -11,7 +12,7 @@ use std::io::{ErrorKind, Write};
 
 /// Writes the text of octets.
 pub fn write_text<W: Write>(alloc: Global, octets: &[u8], out: &mut W) -> io::Result<()>
-    ensures { OnOk result ((text : List ℕ) × (octets_of_text text ≡ Ok octets.now)
+    ensures { OnOk result ((text : List ℕ) × (octets_of_text text ≡ Ok octets.now) × ElementsText 0 octets.now text
         × Appends (W.contents out.old) (W.contents out.new) text) }
 {
     let text = text_of(alloc, octets)?;

@@ -19,12 +19,16 @@ pub no_octets : {A E : Type 0} (r : Result A E) → IsErr r → (w : A) → ¬ (
 no_octets (Ok v) failed w e = false_is_not_true failed
 no_octets (Err y) failed w e = cc
 
+pub no_octets_after : {A E : Type 0} (r : Result A E) (y : E) → r ≡ Err y → (w : A) → ¬ (r ≡ Ok w)
+no_octets_after (Ok v) y failed w e = cc
+no_octets_after (Err x) y failed w e = cc
+
 -- digits are octets that are refused, or no digits
-pub of_digits : {A : Type 0} (r : Result A FormError) (P S : A → Type 0) (x : FormError) (Q R : Type 0) → MatchResult r P (λ e. e ≢ OutOfMemory)
-    → IfOk r S → IfErr r (λ e. (e ≡ OutOfMemory) ⊎ ((e ≡ x) × Q)) → ((v : A) → S v → P v → R) → (Q → R) → R
-of_digits (Ok v) P S x Q R p s e f g = f v s p
-of_digits (Err y) P S x Q R p s (inl none) f g = absurd (p none)
-of_digits (Err y) P S x Q R p s (inr why) f g = g why.1
+pub of_digits : {A : Type 0} (r : Result A FormError) (P S : A → Type 0) (Q : FormError → Type 0) (R : Type 0) → MatchResult r P (λ e. e ≢ OutOfMemory)
+    → IfOk r S → IfErr r (λ e. (e ≡ OutOfMemory) ⊎ Q e) → ((v : A) → S v → P v → R) → ((e : FormError) → Q e → R) → R
+of_digits (Ok v) P S Q R p s e f g = f v s p
+of_digits (Err y) P S Q R p s (inl none) f g = absurd (p none)
+of_digits (Err y) P S Q R p s (inr why) f g = g y why
 
 behind : (a b : List ℕ) → length b ≤ length (a ++ b)
 behind a b = let e = length-append a b in omega (arith, e)

@@ -1,5 +1,7 @@
 -- The reading of an input, and the output for it.
-use Rattle.std.specs.Prelude.{◌≡◌, ◌≢◌, ◌<◌, ℕ, suc, Option, Some, None, List, Ok, IsErr}
+use Rattle.std.specs.Prelude.{◌≡◌, ◌≢◌, ◌<◌, ℕ, suc, Option, Some, None, List, [], ◌++◌, Ok, IsErr}
+use Rattle.std.specs.Prelude.{if◌then◌else◌, IfSome, codes}
+use Rattle.std.specs.Str.{bytes_eq}
 use Rattle.base64.specs.Engines.{standard_pad_indifferent}
 use Rattle.base64.specs.GeneralPurpose.{decode_of as base64_decode_of}
 use Rattle.hex.specs.Hex.{decode_of as hex_decode_of}
@@ -7,10 +9,19 @@ use Rattle.der_input.specs.declared.error.FormError.{FormError}
 use Rattle.der_input.specs.declared.form.Form.{Form}
 use Rattle.der_input.specs.declared.form.Form.TheVariants.{Der, Pem, Hex, Base64}
 use Rattle.der_input.specs.Blocks.{BeginsWithBlock, BreaksBlock, IsEncrypted}
+use Rattle.der_input.specs.Faults.{IsBase64Error}
 use Rattle.der_input.specs.Forms.{FindsForm, FindsNoForm, HasNoBlock}
 use Rattle.der_input.specs.Plain.{characters_of, digits_of}
 use Rattle.der_actions.specs.declared.options.Options.{Options}
 use Rattle.der_cli.specs.Outputs.{IsRefusedBy, RefusesFile, WritesFile, WritesHeading, WritesInside}
+
+-- the name of a file in messages
+abbrev pub shown_name : List ℕ → List ℕ
+shown_name name = if bytes_eq name (codes "-") then codes "standard input" else name
+
+-- The octets of `-` are those of the standard input, if a contract knows these. Of a file nothing is known.
+abbrev pub IsReadFrom : Option (List ℕ) → List ℕ → List ℕ → Type 0
+IsReadFrom input name octets = name ≡ codes "-" → IfSome input (λ all. octets ≡ all)
 
 -- the form of an input: the given one, or else the one that is detected
 abbrev pub IsFormOf : Option Form → List ℕ → Form → Type 0
@@ -23,6 +34,24 @@ Spells Der i w = w ≡ i
 Spells Hex i w = hex_decode_of (digits_of i) ≡ Ok w
 Spells Base64 i w = base64_decode_of standard_pad_indifferent (characters_of i) ≡ Ok w
 Spells Pem i w = ⊥
+
+-- the octets of the n blocks of a text, one after another
+pub data JoinsBlocks : ℕ → List ℕ → List ℕ → Type 0 where
+  joins_none : {i : List ℕ} → HasNoBlock i → JoinsBlocks 0 i []
+  joins_more : {n : ℕ} {i others : List ℕ} (label lines rest octets : List ℕ) → BeginsWithBlock i label lines rest
+      → ¬ IsEncrypted lines → base64_decode_of standard_pad_indifferent (characters_of lines) ≡ Ok octets
+      → JoinsBlocks n rest others → JoinsBlocks (suc n) i (octets ++ others)
+
+-- the octets that an input encodes in a form: those of its blocks, at least one, or else of the whole
+abbrev pub Decodes : Form → List ℕ → List ℕ → Type 0
+Decodes Pem i w = (n : ℕ) × (0 < n) × JoinsBlocks n i w
+Decodes Der i w = Spells Der i w
+Decodes Hex i w = Spells Hex i w
+Decodes Base64 i w = Spells Base64 i w
+
+-- the octets that an input encodes, in the given form or else in the one that is detected
+abbrev pub IsDecoded : Option Form → List ℕ → List ℕ → Type 0
+IsDecoded asked i w = (form : Form) × IsFormOf asked i form × Decodes form i w
 
 -- a block with these lines is accepted, with this output
 pub record ReadsBlock (o : Options) (name label lines : List ℕ) (old new : Option (List ℕ)) : Type 0 where
@@ -49,7 +78,7 @@ pub data ReadsInput (o : Options) (name i : List ℕ) (old new : Option (List �
 -- a block with these lines is rejected: they are encrypted or aren't base64, or an action rejects its octets
 pub data RefusesBlock (o : Options) (lines : List ℕ) : Type 0 where
   encrypted : IsEncrypted lines → RefusesBlock o lines
-  no_base64 : IsErr (base64_decode_of standard_pad_indifferent (characters_of lines)) → RefusesBlock o lines
+  no_base64 : (e : FormError) → IsBase64Error lines e → RefusesBlock o lines
   refused : (w : List ℕ) (old new : Option (List ℕ)) → base64_decode_of standard_pad_indifferent (characters_of lines) ≡ Ok w
       → IsRefusedBy o.action o w old new → RefusesBlock o lines
 

@@ -1,4 +1,5 @@
 pub mod Arguments
+pub mod Counts
 pub mod Inputs
 pub mod Outputs
 pub mod Shown

@@ -1,5 +1,7 @@
 -- The exit status of the program.
-use Rattle.std.specs.Prelude.{◌≡◌, ◌≤◌, ◌⊎◌, ℕ, Bool, true, false, Option, Some, None, List}
+use Rattle.std.specs.Prelude.{◌≡◌, ◌≢◌, ◌≤◌, ◌⊎◌, ℕ, Bool, true, false, Option, Some, None, List}
+use Rattle.clap.specs.declared.error.kind.ErrorKind.{ErrorKind}
+use Rattle.clap.specs.declared.error.kind.ErrorKind.TheVariants.{DisplayHelp, DisplayVersion}
 use Rattle.der_actions.specs.declared.diff.Difference.{Difference}
 use Rattle.der_actions.specs.declared.diff.Difference.TheVariants.{Same, Different}
 use Rattle.der_actions.specs.declared.options.Options.{Options}
@@ -24,3 +26,9 @@ status_of_comparison None = 2
 -- the status of the comparison of these octets
 abbrev pub IsStatusOf : Options → List ℕ → List ℕ → ℕ → Type 0
 IsStatusOf o i j n = (d : Option Difference) × Compares o i j d × (n ≡ status_of_comparison d)
+
+-- the status after a text about the command line: 0 for the help and the version, 2 for an error
+pub record IsStatusTold (k : ErrorKind) (status : ℕ) : Type 0 where
+  pub help : k ≡ DisplayHelp → status ≡ 0
+  pub version : k ≡ DisplayVersion → status ≡ 0
+  pub error : k ≢ DisplayHelp → k ≢ DisplayVersion → status ≡ 2

@@ -1,4 +1,6 @@
 //! The files in folders.
+ghost use Rattle.std.specs.Prelude.{◌≡◌, ◌++◌, ◌∷◌, [], IfOk, OnOk, false, map, string_bytes, true};
+
 use crate::inputs::{DASH, report_unread};
 use der_actions::name::Name;
 use std::alloc::{AllocError, Global};
@@ -63,26 +65,47 @@ pub(crate) fn list_files<R: Files + AllocGlobal + Clone + Drop, X: Write>(
     files: &[&str],
     is_recursive: bool,
     err: &mut X,
-) -> io::Result<FileList> {
+) -> io::Result<FileList>
+    ensures names { is_recursive ≡ false
+        → IfOk result (λ list. map string_bytes list.names.items ≡ map (λ f. f.now) files.now) }
+    ensures whole { is_recursive ≡ false → IfOk result (λ list. list.is_whole ≡ true) }
+{
     let mut list = FileList::new(rt.alloc());
     for file in files {
-        if is_recursive && *file != DASH {
-            list.add_argument(rt, file, err)?;
-        } else {
-            list.names.push(String::from_str(rt.alloc(), file)?)?;
-        }
+        list.add(rt, file, is_recursive, err)?;
     }
     Ok(list)
 }
 
 impl FileList {
     /// No files.
-    fn new(alloc: Global) -> FileList {
+    fn new(alloc: Global) -> FileList
+        ensures names { result.names.items ≡ [] }
+        ensures whole { result.is_whole ≡ true }
+    {
         FileList {
             names: Vec::new(alloc),
             known: BTreeSet::new(alloc),
             is_whole: true,
         }
+    }
+
+    /// Adds a file, or if `is_recursive` the files in a folder.
+    fn add<R: Files + AllocGlobal + Clone + Drop, X: Write>(
+        &mut self,
+        rt: &R,
+        file: &str,
+        is_recursive: bool,
+        err: &mut X,
+    ) -> io::Result<()>
+        ensures names { is_recursive ≡ false → OnOk result (map string_bytes self.new.names.items
+            ≡ map string_bytes self.old.names.items ++ file.now ∷ []) }
+        ensures whole { is_recursive ≡ false → OnOk result (self.new.is_whole ≡ self.old.is_whole) }
+    {
+        if is_recursive && file != DASH {
+            return self.add_argument(rt, file, err);
+        }
+        Ok(self.names.push(String::from_str(rt.alloc(), file)?)?)
     }
 
     /// Adds a file, or the files in a folder. A name that can't be read is added, so that reading it gives the reason.

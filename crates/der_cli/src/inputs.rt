@@ -1,8 +1,12 @@
 //! The files to read, and standard input.
-ghost use Rattle.std.specs.Prelude.{◌≤◌, IfOk};
+ghost use Rattle.std.specs.Prelude.{◌≡◌, ◌≤◌, IfOk, codes, unwrap_or};
+ghost use Rattle.clap.specs.Words.{first_of, found_of, rows_of};
+ghost use Rattle.der_actions.specs.declared.options.Action.{Action};
+ghost use Rattle.der_cli.specs.Arguments.{Asks};
+ghost use Rattle.der_cli.specs.Inputs.{IsReadFrom, shown_name};
 ghost use Rattle.der_cli.specs.Statuses.{IsStatusOf};
 
-use crate::arguments::{form_named, limit_of};
+use crate::arguments::{form_named, options_of, word_of};
 use crate::decode::octets_in;
 use crate::folders::list_files;
 use crate::run::run;
@@ -11,11 +15,13 @@ use crate::summary::Summary;
 use clap::ArgMatches;
 use der_actions::diff::{Sides, compare};
 use der_actions::name::Name;
-use der_actions::options::{Action, Naming, Options};
+use der_actions::naming::naming_of;
+use der_actions::options::{Action, Options};
 use der_actions::origin::Origin;
+use der_actions::report::report_unknown_type;
 use der_actions::text::{write_octets, write_text};
-use der_elements::Rules;
 use der_input::Form;
+use der_known::KnownTypes;
 use der_print::Style;
 use oid_names::OwnNames;
 use std::alloc::Global;
@@ -85,7 +91,9 @@ fn read_file<R: Files + AllocGlobal, I: Read>(
     rt: &R,
     name: &str,
     input: &mut I,
-) -> io::Result<Vec<u8>> {
+) -> io::Result<Vec<u8>>
+    ensures { IfOk result (λ octets. IsReadFrom (I.remaining input.old) name.now octets.items) }
+{
     if name != DASH {
         return fs::read(rt, name);
     }
@@ -95,7 +103,9 @@ fn read_file<R: Files + AllocGlobal, I: Read>(
 }
 
 /// The name of a file in messages.
-fn shown(name: &str) -> &str {
+fn shown(name: &str) -> &str
+    ensures { result.now ≡ shown_name name.now }
+{
     if name == DASH { STANDARD_INPUT } else { name }
 }
 
@@ -120,8 +130,15 @@ pub(crate) fn run_diff<'n, 't, R: Files + AllocGlobal, I: Read, W: Write, X: Wri
 ) -> io::Result<u8>
     ensures { IfOk result (λ status. status ≤ 2) }
 {
+    let types = KnownTypes::new();
+    let word = matches.get_str("as");
+    let Some(naming) = naming_of(Action::Tree, word, &types) else {
+        report_unknown_type(word, &types, err)?;
+        return Ok(TROUBLE);
+    };
     let options = Options {
         own_names,
+        naming,
         ..diff_options(matches, terminal)
     };
     match (matches.get_str("first"), matches.get_str("second")) {
@@ -198,33 +215,11 @@ fn status_of_sides<W: Write, X: Write>(
     Ok(status_of_comparison(found))
 }
 
-/// The options of a comparison.
-fn diff_options<'a>(matches: &ArgMatches<'a>, terminal: Style) -> Options<'a> {
-    Options {
-        action: Action::Tree,
-        rules: if matches.get_flag("der") {
-            Rules::Der
-        } else {
-            Rules::Ber
-        },
-        enters_strings: !matches.get_flag("no-inside"),
-        form: matches.get_str("from").and_then(form_named),
-        style: Style {
-            limit: limit_of(matches, terminal.limit),
-            colours: terminal.colours,
-        },
-        own_names: None,
-        naming: Naming::Unnamed,
-        place: None,
-        depth: None,
-        is_json: false,
-        has_octets: false,
-        is_content: false,
-        is_quiet: false,
-        is_strict: false,
-        present: None,
-        has_several_files: false,
-    }
+/// The options of a comparison: those of a tree.
+fn diff_options<'a>(matches: &ArgMatches<'a>, terminal: Style) -> Options<'a>
+    ensures { Asks Action.Tree (rows_of (found_of matches.now)) terminal result }
+{
+    options_of(Action::Tree, matches, terminal)
 }
 
 /// The octets of a file, decoded. None if it can't be read or decoded, which is reported.
@@ -293,6 +288,8 @@ pub(crate) fn run_octets<R: Files + AllocGlobal, I: Read, W: Write, X: Write>(
 }
 
 /// The file that the arguments name, else standard input.
-fn file_of<'a>(matches: &ArgMatches<'a>) -> &'a str {
-    matches.get_str("file").unwrap_or(DASH)
+fn file_of<'a>(matches: &ArgMatches<'a>) -> &'a str
+    ensures { result.now ≡ unwrap_or (first_of (codes "file") (rows_of (found_of matches.now))) (codes "-") }
+{
+    word_of(matches, "file").unwrap_or(DASH)
 }

@@ -1,6 +1,5 @@
 //! The user's names of object identifiers, in the table of `--names`.
-ghost use Rattle.std.specs.Prelude.{◌≡◌, IfOk, MatchOption, ℕ};
-ghost use Rattle.std.specs.Prelude.{Some, position};
+ghost use Rattle.std.specs.Prelude.{◌≡◌, [], IfOk, IsSomeAnd, MatchOption, None, Some, position, string_bytes, ℕ};
 ghost use Rattle.oid_names.specs.OwnNames.{IsTable, entries_in, is_wrong, lines_in};
 
 use crate::inputs::report_unread;
@@ -16,7 +15,9 @@ pub(crate) fn table_text<R: Files + AllocGlobal, X: Write>(
     rt: &R,
     name: Option<&str>,
     err: &mut X,
-) -> io::Result<Option<String>> {
+) -> io::Result<Option<String>>
+    ensures { name.entry ≡ None → IfOk result (λ text. IsSomeAnd text (λ t. string_bytes t ≡ [])) }
+{
     let Some(name) = name else {
         return Ok(Some(String::new(rt.alloc())));
     };

@@ -9,7 +9,8 @@ use crate::shown_object::{write_refused, write_shown};
 use der_actions::options::Options;
 use der_actions::origin::Origin;
 use der_actions::report::report_fault;
-use der_elements::Rules;
+use der_elements::check::check_element;
+use der_elements::{MAX_DEPTH, Rules};
 use der_show::{Unread, Words, text_of_refused, why_unread, words_of};
 use std::alloc::{AllocError, Global};
 use std::io;
@@ -158,7 +159,24 @@ pub(crate) fn report_unknown<X: Write>(
         return Ok(());
     }
     match unread {
+        Some(unread) if has_trust(origin, octets, unread) => {
+            let offset = unread.refused.offset();
+            writeln!(
+                err,
+                "der: {origin}: at {offset}, after the certificate, are OpenSSL's trust settings"
+            )
+        }
         Some(unread) => writeln!(err, "der: {origin}: {unread}"),
         None => writeln!(err, "der: {origin}: it is nothing that is known"),
+    }
+}
+
+/// Whether OpenSSL's trust settings follow a certificate, and nothing else is wrong.
+fn has_trust(origin: Origin<'_>, octets: &[u8], unread: &Unread<'_>) -> bool {
+    match check_element(octets, Rules::Ber, MAX_DEPTH + 1) {
+        Some(rest) if origin.is_trusted() && !rest.is_empty() => {
+            unread.refused.offset() == octets.len().saturating_sub(rest.len())
+        }
+        _ => false,
     }
 }

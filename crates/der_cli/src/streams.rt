@@ -4,10 +4,11 @@ ghost use Rattle.std.specs.Prelude.{codes};
 ghost use Rattle.std.specs.IoError.{error_kind};
 ghost use Rattle.std.specs.Process.{exit_status};
 ghost use Rattle.std.specs.declared.io.ErrorKind.{ErrorKind};
+ghost use Rattle.clap.specs.Words.{kind_of};
 ghost use Rattle.der_input.specs.declared.form.Form.{Form};
 ghost use Rattle.der_cli.specs.Inputs.{ReadsInput};
 ghost use Rattle.der_actions.specs.Outputs.{IsChecked};
-ghost use Rattle.der_cli.specs.Statuses.{IsStatus};
+ghost use Rattle.der_cli.specs.Statuses.{IsStatus, IsStatusTold};
 ghost use Rattle.der_actions.specs.declared.options.Action.{Action};
 
 use crate::arguments::{action_named, options_of};
@@ -103,7 +104,8 @@ fn run_found<
 
 /// Tells what is wrong with a command line, or prints the help.
 fn tell<W: Write + Drop, X: Write>(e: &clap::Error, mut out: W, err: &mut X) -> io::Result<u8>
-    ensures { IfOk result (λ status. status ≤ 2) }
+    ensures bounded { IfOk result (λ status. status ≤ 2) }
+    ensures told { IfOk result (IsStatusTold (kind_of e.now)) }
 {
     if e.use_stderr() {
         write!(err, "{e}")?;

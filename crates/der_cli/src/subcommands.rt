@@ -133,7 +133,7 @@ static DIFF_COMMAND: Subcommand = Subcommand {
     name: "diff",
     about: "Print the elements that differ between two files",
     notes: Some(DIFF_NOTES),
-    arguments: &[DER, NAMES, FULL, WIDTH, NO_INSIDE, FROM, FIRST, SECOND],
+    arguments: &[DER, AS, NAMES, FULL, WIDTH, NO_INSIDE, FROM, FIRST, SECOND],
 };
 
 fn diff() -> &'static Subcommand {
@@ -181,7 +181,8 @@ docs/der-json.schema.json describes the members. --path takes the values of
 path and field_path.";
 
 const DIFF_NOTES: &str = "\
-Elements with the same path are compared, without offsets and length octets.
+Elements that both files have in the same order are left out: as many as there
+can be, unless more than 16 are equal. Offsets and length octets don't count.
 The status is 0 if the elements are the same, 1 if they differ, 2 on an error.";
 
 const TEXT_NOTES: &str = "\

@@ -1,4 +1,7 @@
 //! The count of files that a check rejects.
+ghost use Rattle.std.specs.Prelude.{◌≡◌, ◌&&◌, ◌<◌, false};
+ghost use Rattle.der_cli.specs.Counts.{are_accepted, is_good};
+
 use der_actions::options::{Naming, Options};
 use der_elements::Rules;
 use std::io::Write;
@@ -36,7 +39,9 @@ pub(crate) struct Summary {
 
 impl Summary {
     /// The count before the first file.
-    pub(crate) fn new(is_whole: bool) -> Summary {
+    pub(crate) fn new(is_whole: bool) -> Summary
+        ensures { result ≡ record { files = 0; refused = 0; unread = 0; is_whole = is_whole } }
+    {
         Summary {
             files: 0,
             refused: 0,
@@ -46,7 +51,11 @@ impl Summary {
     }
 
     /// Counts a file that was read, and was accepted or not.
-    pub(crate) fn add(&mut self, is_read: bool) {
+    pub(crate) fn add(&mut self, is_read: bool)
+        ensures counted { 0 < self.new.files }
+        ensures accepted { are_accepted self.new ≡ (are_accepted self.old && is_read) }
+        ensures whole { self.new.is_whole ≡ self.old.is_whole }
+    {
         self.files = self.files.saturating_add(1);
         if !is_read {
             self.refused = self.refused.saturating_add(1);
@@ -54,13 +63,19 @@ impl Summary {
     }
 
     /// Counts a file that can't be read.
-    pub(crate) fn add_unread(&mut self) {
+    pub(crate) fn add_unread(&mut self)
+        ensures counted { 0 < self.new.files }
+        ensures accepted { are_accepted self.new ≡ false }
+        ensures whole { self.new.is_whole ≡ self.old.is_whole }
+    {
         self.files = self.files.saturating_add(1);
         self.unread = self.unread.saturating_add(1);
     }
 
     /// Whether there is a file, and all were accepted.
-    pub(crate) fn is_good(&self) -> bool {
+    pub(crate) fn is_good(&self) -> bool
+        ensures { result ≡ is_good self.now }
+    {
         self.files > 0 && self.refused == 0 && self.unread == 0 && self.is_whole
     }
 

@@ -1,7 +1,7 @@
 -- Blocks of PEM with text around them (RFC 7468).
 use Rattle.std.specs.Prelude.{◌≡◌, ◌≢◌, ℕ, ◌+◌, ◌<◌, ◌==◌, ◌&&◌, ◌||◌, Bool, true, false, if◌then◌else◌}
 use Rattle.std.specs.Prelude.{Option, Some, None}
-use Rattle.std.specs.Prelude.{List, [], ◌∷◌, ◌++◌, length, take, drop, reverse, codes, find, ◌⊎◌, Ok, IsErr}
+use Rattle.std.specs.Prelude.{List, [], ◌∷◌, ◌++◌, length, take, drop, reverse, codes, find, ◌⊎◌, Ok}
 use Rattle.std.specs.List.{range_with_len}
 use Rattle.std.specs.Option.{option_map_or}
 use Rattle.base64.specs.Engines.{standard_pad_indifferent}
@@ -9,8 +9,9 @@ use Rattle.base64.specs.GeneralPurpose.{decode_of as base64_decode_of}
 use Rattle.bstr.specs.Find.{OccursAt, occurs_at}
 use Rattle.bstr.specs.Text.{Contains}
 use Rattle.der_input.specs.declared.error.FormError.{FormError}
-use Rattle.der_input.specs.declared.error.FormError.TheVariants.{Base64, Encrypted, LabelsDiffer, NoEnd, OutOfMemory}
+use Rattle.der_input.specs.declared.error.FormError.TheVariants.{Encrypted, LabelsDiffer, NoEnd, OutOfMemory}
 use Rattle.der_input.specs.declared.pem.Block.{Block}
+use Rattle.der_input.specs.Faults.{IsBase64Error}
 use Rattle.der_input.specs.Marks.{ends_in, is_mark}
 use Rattle.der_input.specs.Plain.{characters_of}
 
@@ -115,5 +116,4 @@ abbrev pub SpellsLines : List ℕ → List ℕ → Type 0
 SpellsLines lines w = ¬ IsEncrypted lines × (base64_decode_of standard_pad_indifferent (characters_of lines) ≡ Ok w)
 
 abbrev pub RefusesLines : List ℕ → FormError → Type 0
-RefusesLines lines e = (e ≡ OutOfMemory) ⊎ ((e ≡ Encrypted) × IsEncrypted lines)
-    ⊎ ((e ≡ Base64) × IsErr (base64_decode_of standard_pad_indifferent (characters_of lines)))
+RefusesLines lines e = (e ≡ OutOfMemory) ⊎ ((e ≡ Encrypted) × IsEncrypted lines) ⊎ IsBase64Error lines e

@@ -5,6 +5,7 @@ use Rattle.std.specs.Char.{is_ascii_control}
 use Rattle.std.specs.List.{list_any}
 use Rattle.std.specs.Option.{option_map, option_map_or}
 use Rattle.std.specs.Str.{IsUtf8}
+use Rattle.bstr.specs.Text.{Contains}
 use Rattle.der_base.specs.declared.header.Class.{Class}
 use Rattle.der_base.specs.declared.header.Length.TheVariants.{Definite}
 use Rattle.der_base.specs.Headers.{BeginsWithHeader}
@@ -67,9 +68,13 @@ other_kinds =
 abbrev pub other_kind : List ℕ → Option (List ℕ)
 other_kind i = option_map (λ row. row.1) (find (λ row. begins_with i row.0) other_kinds)
 
+-- a text in which a line of PEM ends a block
+abbrev pub EndsBlock : List ℕ → Type 0
+EndsBlock i = IsText i × Contains i (codes "-----END ")
+
 -- A text without a block is in a notation: hexadecimal digits, of which there are several, or base64.
 abbrev pub IsPlain : List ℕ → Type 0
-IsPlain i = (begins_after_text i ≡ false) × IsText i
+IsPlain i = (begins_after_text i ≡ false) × IsText i × ¬ Contains i (codes "-----END ")
 
 abbrev pub form_of_notation : Notation → Form
 form_of_notation notation.Base64 = Base64
@@ -80,7 +85,7 @@ plain_form i = option_map form_of_notation (notation_of i)
 
 -- the form of an input that isn't one element, and of no other kind
 abbrev pub IsWritten : List ℕ → Form → Type 0
-IsWritten i Pem = begins_after_text i ≡ true
+IsWritten i Pem = (begins_after_text i ≡ true) ⊎ EndsBlock i
 IsWritten i Der = (begins_after_text i ≡ false) × ¬ IsText i
 IsWritten i form = IsPlain i × (plain_form i ≡ Some form)
 

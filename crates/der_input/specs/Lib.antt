@@ -1,5 +1,6 @@
 pub mod Blocks
 pub mod Escapes
+pub mod Faults
 pub mod Forms
 pub mod Marks
 pub mod Numbers

@@ -142,5 +142,9 @@ characters_from (suc k) (c ∷ text) = characters_from k text
 characters_from zero (c ∷ text) = if begins_break (c ∷ text) then characters_from 1 text
     else character_of c ++ characters_from 0 text
 
+-- the part of a text that has characters of base64
+abbrev pub body_of : List ℕ → List ℕ
+body_of text = without_headers (without_address text)
+
 abbrev pub characters_of : List ℕ → List ℕ
-characters_of text = characters_from 0 (without_headers (without_address text))
+characters_of text = characters_from 0 (body_of text)

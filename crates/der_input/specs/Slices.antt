@@ -7,6 +7,7 @@ use Rattle.hex.specs.Hex.{decode_of as hex_decode_of}
 use Rattle.der_input.specs.declared.error.FormError.{FormError}
 use Rattle.der_input.specs.declared.error.FormError.TheVariants.{Base64, Encrypted, Hex, OutOfMemory}
 use Rattle.der_input.specs.Blocks.{IsEncrypted}
+use Rattle.der_input.specs.Faults.{IsFault}
 use Rattle.der_input.specs.Plain.{characters_of, digits_of}
 
 -- n octets suffice for the digits of a text, and m for the octets of these
@@ -30,8 +31,7 @@ abbrev pub DecodesBase64 : List ℕ → ℕ → List ℕ → Result ℕ FormErro
 DecodesBase64 text n octets (Ok size) = SufficeForBase64 text n (length octets)
     × (base64_decode_of standard_pad_indifferent (characters_of text) ≡ Ok (take size octets))
 DecodesBase64 text n octets (Err OutOfMemory) = ¬ SufficeForBase64 text n (length octets)
-DecodesBase64 text n octets (Err Base64) = SufficeForBase64 text n (length octets)
-    × IsErr (base64_decode_of standard_pad_indifferent (characters_of text))
+DecodesBase64 text n octets (Err (Base64 fault)) = SufficeForBase64 text n (length octets) × IsFault text fault
 DecodesBase64 text n octets (Err e) = ⊥
 
 -- of the lines of a block of PEM

@@ -4,15 +4,15 @@ ghost use Rattle.std.specs.Prelude.{IfSome};
 ghost use Rattle.std.specs.List.{list_all};
 ghost use Rattle.std.specs.Option.{option_map};
 ghost use Rattle.der_input.specs.Marks.{Puts, first_place};
-ghost use Rattle.der_input.specs.Plain.{begins_break, behind_headers, behind_line, character_of, characters_from};
-ghost use Rattle.der_input.specs.Plain.{characters_of, is_base64, is_base64_text, is_character, standard_character};
-ghost use Rattle.der_input.specs.Plain.{without_address, without_headers};
+ghost use Rattle.der_input.specs.Plain.{begins_break, behind_headers, behind_line, body_of, character_of};
+ghost use Rattle.der_input.specs.Plain.{characters_from, characters_of, is_base64, is_base64_text, is_character};
+ghost use Rattle.der_input.specs.Plain.{standard_character, without_address, without_headers};
 
 use crate::marks::{after, behind, is_mark, offset_of, put};
 use crate::search::find;
 
 /// The octets of an escaped line end, as in JSON.
-const BREAK: usize = 2;
+pub(crate) const BREAK: usize = 2;
 
 /// Returns whether a text is characters of base64 and what may be between them.
 pub(crate) fn is_base64_text(text: &[u8]) -> bool
@@ -37,7 +37,14 @@ fn is_base64(octet: u8) -> bool
 pub fn put_characters(text: &[u8], room: &mut [u8]) -> Option<usize>
     ensures { Puts room.old 0 (characters_of text.now) room.new result }
 {
-    put_characters_among(without_headers(without_address(text)), room)
+    put_characters_among(body_of(text), room)
+}
+
+/// The part of a text that has characters of base64.
+pub(crate) fn body_of(text: &[u8]) -> &[u8]
+    ensures { result.now ≡ body_of text.now }
+{
+    without_headers(without_address(text))
 }
 
 /// Writes the base64 characters among octets and returns their number.
@@ -58,7 +65,7 @@ fn put_characters_among(octets: &[u8], room: &mut [u8]) -> Option<usize>
 }
 
 /// Returns whether a text begins with an escaped line end, as in JSON.
-fn begins_break(text: &[u8]) -> bool
+pub(crate) fn begins_break(text: &[u8]) -> bool
     ensures is { result ≡ begins_break text.now }
     ensures long { result ≡ true → 2 ≤ length text.now }
 {
@@ -133,7 +140,7 @@ fn place_of(text: &[u8], needle: &[u8]) -> Option<usize>
     find(text, needle)
 }
 
-fn is_character(octet: u8) -> bool
+pub(crate) fn is_character(octet: u8) -> bool
     ensures { result ≡ is_character octet }
 {
     !octet.is_ascii_whitespace() && !is_mark(b"\"'>,;", octet)

@@ -1,4 +1,5 @@
 //! Errors of decoding an input.
+use crate::fault::Base64Fault;
 use std::alloc::{AllocError, AllocFailed};
 
 /// Why the octets of an input aren't found.
@@ -11,8 +12,8 @@ pub enum FormError {
     #[error("no pairs of hexadecimal digits")]
     Hex,
     /// The base64 is invalid.
-    #[error("invalid base64")]
-    Base64,
+    #[error("invalid base64 {0}")]
+    Base64(Base64Fault),
     /// No block of PEM begins.
     #[error("no line -----BEGIN ..-----")]
     NoBlock,

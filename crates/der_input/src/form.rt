@@ -9,7 +9,8 @@ ghost use Rattle.der_base.specs.declared.header.Length.{Length};
 
 use crate::error::FormError;
 use crate::notation::{Notation, notation_of};
-use crate::pem::first_begin;
+use crate::pem::{END, first_begin};
+use crate::search::contains;
 use der_base::header::{Length, ber_read_element_header};
 use std::str;
 
@@ -56,9 +57,9 @@ const OTHER_KINDS: [(&[u8], &str); 9] = [
 /// Detects how an input is written: as octets, or as text that is PEM, hexadecimal digits or base64.
 ///
 /// One element of a definite length that fills the input is octets, unless the input is all text; so is any input that
-/// isn't text. PEM begins at the start of a line, with only text before it. Other text has the first notation that
-/// fits: dump, string with escapes, decimal numbers, hexadecimal digits, base64, numbers with `0x` among words. An
-/// input that begins as another kind of file, or is other text, is an error.
+/// isn't text. PEM begins at the start of a line, with only text before it; a text with the end of a block is PEM too.
+/// Other text has the first notation that fits: dump, string with escapes, decimal numbers, hexadecimal digits, base64,
+/// numbers with `0x` among words. An input that begins as another kind of file, or is other text, is an error.
 pub fn form_of(input: &[u8]) -> Result<Form, FormError>
     ensures form { IfOk result (FindsForm input.now) }
     ensures none { IfErr result (FindsNoForm input.now) }
@@ -74,6 +75,9 @@ pub fn form_of(input: &[u8]) -> Result<Form, FormError>
     }
     if !is_text(input) {
         return Ok(Form::Der);
+    }
+    if contains(input, END) {
+        return Ok(Form::Pem);
     }
     match notation_of(input) {
         Some(notation) => Ok(form_of_notation(notation)),

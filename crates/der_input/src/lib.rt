@@ -4,6 +4,7 @@
 mod characters;
 mod error;
 mod escapes;
+mod fault;
 mod form;
 mod marks;
 mod notation;
@@ -14,6 +15,7 @@ mod search;
 mod slices;
 
 pub use error::FormError;
+pub use fault::{Base64Fault, Wrong};
 pub use form::{Form, form_of};
 pub use pem::{Block, first_begin, first_label, next_block};
 pub use plain::{decode_base64, decode_hex};

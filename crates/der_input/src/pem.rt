@@ -20,7 +20,8 @@ use std::alloc::Global;
 /// The start of a block, before its label.
 pub(crate) const BEGIN: &[u8] = b"-----BEGIN ";
 
-const END: &[u8] = b"-----END ";
+/// The start of the end line of a block, before its label.
+pub(crate) const END: &[u8] = b"-----END ";
 
 const DASHES: &[u8] = b"-----";
 

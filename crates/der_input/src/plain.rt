@@ -6,6 +6,7 @@ ghost use Rattle.std.specs.Char.{is_ascii_hexdigit, is_ascii_whitespace};
 ghost use Rattle.base64.specs.Engines.{standard_pad_indifferent};
 ghost use Rattle.base64.specs.GeneralPurpose.{decode_of as base64_decode_of};
 ghost use Rattle.hex.specs.Hex.{decode_of as hex_decode_of};
+ghost use Rattle.der_input.specs.Faults.{IsBase64Error};
 ghost use Rattle.der_input.specs.Marks.{Puts, is_separator};
 ghost use Rattle.der_input.specs.Numbers.{ends_word};
 ghost use Rattle.der_input.specs.Plain.{before_characters, begins_characters, begins_with_zero, behind_offset};
@@ -15,6 +16,7 @@ ghost use Rattle.der_input.specs.Plain.{ends_offset, is_dump, padded, without_ma
 use crate::characters::put_characters;
 use crate::error::FormError;
 use crate::escapes::put_escaped;
+use crate::fault::Base64Fault;
 use crate::marks::{after, behind, is_separator, put, put_all};
 use crate::notation::{Notation, in_braces, notation_of};
 use crate::numbers::{ends_word, has_prefix, is_prefixed, prefixed_digits, put_numbers};
@@ -51,8 +53,7 @@ pub fn decode_hex(alloc: Global, text: &[u8]) -> Result<Vec<u8>, FormError>
 /// `data:` URL are skipped.
 pub fn decode_base64(alloc: Global, text: &[u8]) -> Result<Vec<u8>, FormError>
     ensures ok { IfOk result (λ v. base64_decode_of standard_pad_indifferent (characters_of text.now) ≡ Ok v.items) }
-    ensures err { IfErr result (λ e. (e ≡ FormError.OutOfMemory) ⊎ ((e ≡ FormError.Base64)
-        × IsErr (base64_decode_of standard_pad_indifferent (characters_of text.now)))) }
+    ensures err { IfErr result (λ e. (e ≡ FormError.OutOfMemory) ⊎ IsBase64Error text.now e) }
 {
     let Some(mut room) = room_for(alloc, text) else {
         return Err(FormError::OutOfMemory);
@@ -63,7 +64,7 @@ pub fn decode_base64(alloc: Global, text: &[u8]) -> Result<Vec<u8>, FormError>
     match STANDARD_PAD_INDIFFERENT.decode(alloc, &room[..end]) {
         Ok(octets) => Ok(octets),
         Err(DecodeAllocError::OutOfMemory) => Err(FormError::OutOfMemory),
-        Err(_) => Err(FormError::Base64),
+        Err(DecodeAllocError::DecodeError(e)) => Err(FormError::Base64(Base64Fault::of(text, e))),
     }
 }
 

@@ -4,6 +4,7 @@ ghost use Rattle.der_input.specs.Slices.{DecodesBase64, DecodesDigits};
 
 use crate::characters::put_characters;
 use crate::error::FormError;
+use crate::fault::Base64Fault;
 use crate::plain::put_digits;
 use base64::decoded_len_estimate;
 use base64::engine::general_purpose::STANDARD_PAD_INDIFFERENT;
@@ -49,6 +50,6 @@ pub fn decode_base64_into(
     }
     match STANDARD_PAD_INDIFFERENT.decode_slice_unchecked(&room[..end], octets) {
         Ok(size) => Ok(size),
-        Err(_) => Err(FormError::Base64),
+        Err(e) => Err(FormError::Base64(Base64Fault::of(text, e))),
     }
 }

@@ -9,7 +9,7 @@ use Rattle.std.proofs.lemmas.Bool.Decides.{nat_tests}
 use Rattle.std.proofs.lemmas.Str.{IsUtf8-from_is_utf8, is_utf8-from_IsUtf8}
 use Rattle.der_print.specs.declared.pieces.Piece.TheVariants.{Character, Octet}
 use Rattle.der_base.specs.Text.{units}
-use Rattle.der_print.specs.Quotes.{character_of, pieces, utf32_lossy_chars}
+use Rattle.der_print.specs.Quotes.{character_of, other_pieces, pieces, utf32_lossy_chars}
 
 -- a unit that is in no pair
 pub lone_character : (u : ℕ) → u < 0x1_0000 → unwrap_or (lone_unit_char u) 0xfffd ≡ character_of u
@@ -44,8 +44,8 @@ pub not_true : (b : Bool) → ¬ (b ≡ true) → b ≡ false
 not_true true h = absurd (h refl)
 not_true false h = refl
 
-pub octet_pieces : (t : ℕ) (w : List ℕ) → t ≢ 30 → t ≢ 28 → ¬ IsUtf8 w → map (λ b. Octet b) w ≡ pieces t w
-octet_pieces t w bmp universal none =
+pub other_pieces_are : (t : ℕ) (w : List ℕ) → t ≢ 30 → t ≢ 28 → ¬ IsUtf8 w → other_pieces t w ≡ pieces t w
+other_pieces_are t w bmp universal none =
     let not_bmp : (t == 30) ≡ false = grind (arith, nat_tests) in
     let not_universal : (t == 28) ≡ false = grind (arith, nat_tests) in
     rw (not_bmp, not_universal, not_true (is_utf8 w) (λ h. none (IsUtf8-from_is_utf8 w h))) refl

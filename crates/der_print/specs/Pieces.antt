@@ -4,7 +4,7 @@ use Rattle.std.specs.Char.Utf16.{utf16_lossy_chars}
 use Rattle.std.specs.Str.{chars}
 use Rattle.der_base.specs.Text.{units}
 use Rattle.der_print.specs.declared.pieces.Characters.{Characters}
-use Rattle.der_print.specs.declared.pieces.Characters.TheVariants.{Utf8, Utf16, Utf32, Octets}
+use Rattle.der_print.specs.declared.pieces.Characters.TheVariants.{Utf8, Latin1, Utf16, Utf32, Octets}
 use Rattle.der_print.specs.declared.pieces.Piece.{Piece}
 use Rattle.der_print.specs.declared.pieces.Piece.TheVariants.{Character, Octet}
 use Rattle.der_print.specs.Quotes.{utf32_lossy_chars}
@@ -12,6 +12,7 @@ use Rattle.der_print.specs.Quotes.{utf32_lossy_chars}
 -- the characters that are left
 abbrev pub pieces_left : Characters → List Piece
 pieces_left (Utf8 s) = map (λ c. Character c) (chars s.now)
+pieces_left (Latin1 w) = map (λ b. Character b) w.now
 pieces_left (Utf16 w) = map (λ c. Character c) (utf16_lossy_chars (units w.now))
 pieces_left (Utf32 w) = map (λ c. Character c) (utf32_lossy_chars w.now)
 pieces_left (Octets w) = map (λ b. Octet b) w.now

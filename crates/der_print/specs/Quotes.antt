@@ -60,13 +60,17 @@ utf32_lossy_chars (a ∷ b ∷ c ∷ d ∷ w) =
     character_of (from_be_bytes w32 (a ∷ b ∷ c ∷ d ∷ [])) ∷ utf32_lossy_chars w
 utf32_lossy_chars _ = []
 
+-- the characters of a string that isn't UTF-8: those of a T61String are Latin 1, and of any other there are octets
+abbrev pub other_pieces : ℕ → List ℕ → List Piece
+other_pieces t w = if t == 20 then map (λ b. Character b) w else map (λ b. Octet b) w
+
 -- the characters of a string, by the number of its type: a BMPString is UTF-16, a UniversalString UTF-32, and any other
--- UTF-8; if it isn't, its octets
+-- UTF-8, if it is that
 abbrev pub pieces : ℕ → List ℕ → List Piece
 pieces t w =
     if t == 30 then map (λ c. Character c) (utf16_lossy_chars (units w))
     else if t == 28 then map (λ c. Character c) (utf32_lossy_chars w)
-    else if is_utf8 w then map (λ c. Character c) (chars w) else map (λ b. Octet b) w
+    else if is_utf8 w then map (λ c. Character c) (chars w) else other_pieces t w
 
 -- a character or an octet of a quoted text
 abbrev pub piece_text : Piece → List ℕ

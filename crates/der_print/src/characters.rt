@@ -64,8 +64,8 @@ pub(crate) fn is_unescaped(character: char) -> bool
     character != '"' && character != '\\' && !is_hidden(character)
 }
 
-/// Returns whether a character is a control character or invisible.
-fn is_hidden(character: char) -> bool
+/// Returns whether a character is a control character, is invisible, or changes the direction of a text.
+pub fn is_hidden(character: char) -> bool
     ensures { result ≡ is_hidden character }
 {
     let code = u32::from(character);

@@ -27,11 +27,13 @@ mod time;
 mod value;
 
 pub use bits::Bits;
+pub use characters::is_hidden;
 pub use identifier::Arcs;
 pub use line::{write_field_line, write_line, write_line_of, write_named_line};
 pub use number::Number;
 pub use octets::Hex;
 pub use outline::write_outline;
+pub use pieces::{Characters, Piece, characters_of, next_piece};
 pub use real::Real;
 pub use remark::{BrokenRule, Remark};
 pub use room::Room;

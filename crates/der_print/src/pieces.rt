@@ -4,10 +4,13 @@ ghost use Rattle.std.specs.Char.Utf16.{is_high_surrogate, is_low_surrogate, surr
 ghost use Rattle.std.specs.Str.{chars};
 ghost use Rattle.der_base.specs.Text.{units};
 ghost use Rattle.der_print.specs.Pieces.{BeginsWith, pieces_left};
-ghost use Rattle.der_print.specs.Quotes.{character_of, pieces, utf32_lossy_chars};
+ghost use Rattle.der_print.specs.Quotes.{character_of, other_pieces, pieces, utf32_lossy_chars};
 ghost use Rattle.der_print.specs.declared.pieces.Piece.{Piece};
 
 use std::str;
+
+/// The tag number of a T61String.
+const T61_STRING: u32 = 20;
 
 /// The tag number of a UniversalString.
 const UNIVERSAL_STRING: u32 = 28;
@@ -17,8 +20,10 @@ const BMP_STRING: u32 = 30;
 
 /// The rest of a string, by the encoding of its characters.
 #[derive(Clone, Copy)]
-pub(crate) enum Characters<'a> {
+pub enum Characters<'a> {
     Utf8(&'a str),
+    /// Latin 1, as issuers use T61String.
+    Latin1(&'a [u8]),
     /// Big endian.
     Utf16(&'a [u8]),
     /// Big endian.
@@ -29,13 +34,14 @@ pub(crate) enum Characters<'a> {
 
 /// A character, or an octet that isn't one.
 #[derive(Clone, Copy)]
-pub(crate) enum Piece {
+pub enum Piece {
     Character(char),
     Octet(u8),
 }
 
-/// The characters of a string with this type number.
-pub(crate) fn characters_of(number: u32, octets: &[u8]) -> Characters<'_>
+/// The characters of a string with this type number: a BMPString is UTF-16, a UniversalString UTF-32, and any other UTF-8.
+/// A T61String that isn't UTF-8 is Latin 1. Another string that isn't UTF-8 is octets.
+pub fn characters_of(number: u32, octets: &[u8]) -> Characters<'_>
     ensures { pieces_left result ≡ pieces number octets.now }
 {
     match number {
@@ -43,17 +49,28 @@ pub(crate) fn characters_of(number: u32, octets: &[u8]) -> Characters<'_>
         UNIVERSAL_STRING => Characters::Utf32(octets),
         _ => match str::from_utf8(octets) {
             Ok(text) => Characters::Utf8(text),
-            Err(_) => Characters::Octets(octets),
+            Err(_) => other_characters(number, octets),
         },
     }
 }
 
+/// The characters of a string that isn't UTF-8.
+fn other_characters(number: u32, octets: &[u8]) -> Characters<'_>
+    ensures { pieces_left result ≡ other_pieces number octets.now }
+{
+    if number == T61_STRING {
+        return Characters::Latin1(octets);
+    }
+    Characters::Octets(octets)
+}
+
 /// The first character and the rest.
-pub(crate) fn next_piece(characters: Characters<'_>) -> Option<(Piece, Characters<'_>)>
+pub fn next_piece(characters: Characters<'_>) -> Option<(Piece, Characters<'_>)>
     ensures { BeginsWith result (pieces_left characters.entry) }
 {
     match characters {
         Characters::Utf8(text) => next_of_text(text),
+        Characters::Latin1(octets) => next_of_latin1(octets),
         Characters::Utf16(octets) => next_of_units(octets),
         Characters::Utf32(octets) => next_of_codes(octets),
         Characters::Octets(octets) => next_octet(octets),
@@ -70,6 +87,18 @@ fn next_of_text(text: &str) -> Option<(Piece, Characters<'_>)>
             Characters::Utf8(characters.as_str()),
         )),
         None => None,
+    }
+}
+
+fn next_of_latin1(octets: &[u8]) -> Option<(Piece, Characters<'_>)>
+    ensures { BeginsWith result (map (λ b. Piece.Character b) octets.now) }
+{
+    match octets {
+        [octet, rest @ ..] => Some((
+            Piece::Character(char::from(*octet)),
+            Characters::Latin1(rest),
+        )),
+        [] => None,
     }
 }
 

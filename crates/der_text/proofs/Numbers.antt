@@ -1,17 +1,19 @@
 -- Decimal numbers, and texts that are ASCII.
 use Rattle.std.proofs.Common.{◌≡◌, ℕ, ◌^◌, ◌<◌, Bool, true, false, List, [], ◌∷◌, length, refl, sym, ap, ◌∙◌, arith}
-use Rattle.std.specs.Prelude.{◌&&◌, nat_lt, if◌then◌else◌, IsTrue, Some, None, Result, Ok, Err}
+use Rattle.std.specs.Prelude.{◌++◌, codes, decimal, ◌&&◌, nat_lt, if◌then◌else◌, IsTrue, Some, None, Result, Ok, Err}
 use Rattle.std.specs.Char.{is_ascii_digit}
 use Rattle.std.specs.List.{list_all}
 use Rattle.std.specs.Result.{result_ok}
 use Rattle.std.specs.Str.{all_ascii_digits, IsAscii, IsUtf8}
 use Rattle.std.specs.Str.Parse.{digits_value, ParsesUnsigned}
 use Rattle.std.proofs.lemmas.Bool.Decides.{nat_tests}
+use Rattle.std.proofs.lemmas.Fmt.{decimal_is_IsNumeral, digits_decimal, digits_value-decimal}
 use Rattle.std.proofs.lemmas.Str.{IsUtf8-from_ascii}
 use Rattle.std.proofs.lemmas.Str.Ascii.{IsAscii-nil, IsAscii-cons}
 use Rattle.std.proofs.lemmas.Str.Parse.{IsNumeralModel, numerals_by_value, tells_all_ascii_digits, parse_digits}
 use Rattle.der_base.specs.OidArcs.{is_arc}
 use Rattle.der_base.proofs.Oids.Arcs.{and_first, and_second}
+use Rattle.der_text.specs.Lexemes.{is_word}
 use Rattle.der_text.specs.Words.{decimal_number, is_dotted}
 
 numerals : IsNumeralModel (λ ds. all_ascii_digits ds ≡ true) (digits_value 10)
@@ -76,3 +78,22 @@ digits_utf8 w h = IsUtf8-from_ascii w (ascii is_ascii_digit digit_small w h)
 
 pub dotted_utf8 : (w : List ℕ) → list_all is_dotted w ≡ true → IsUtf8 w
 dotted_utf8 w h = IsUtf8-from_ascii w (ascii is_dotted dotted_small w h)
+
+-- a number that is written in decimal
+pub decimal_reads_back : (n : ℕ) → n < 2 ^ 64 → decimal_number (decimal n) ≡ Some n
+decimal_reads_back n h =
+    let value = digits_value-decimal numerals n h in
+    let small : digits_value 10 (decimal n) < 2 ^ 64 = omega (arith, value, h) in
+    if_arc (decimal n) true (number_is (decimal n) (digits_decimal numerals n h) (decimal_is_IsNumeral n h).0.0 small) ∙ ap Some value
+
+digit_in_word : (c : ℕ) → is_ascii_digit c ≡ true → is_word c ≡ true
+digit_in_word c h = grind (arith, nat_tests, h)
+
+digits_in_word : (w : List ℕ) → all_ascii_digits w ≡ true → list_all is_word w ≡ true
+digits_in_word [] h = refl
+digits_in_word (c ∷ w) h =
+    ap (λ b. b && list_all is_word w) (digit_in_word c (and_first (is_ascii_digit c) (all_ascii_digits w) h))
+    ∙ digits_in_word w (and_second (is_ascii_digit c) (all_ascii_digits w) h)
+
+pub decimal_in_word : (n : ℕ) → n < 2 ^ 64 → list_all is_word (codes "long-form:" ++ decimal n) ≡ true
+decimal_in_word n h = digits_in_word (decimal n) (digits_decimal numerals n h)

@@ -288,16 +288,6 @@ pub pushed_hexadecimal : {a b x y : List ℕ} (w : List ℕ) → b ≡ a ++ 96 �
     → IsBytes w → Puts a y w
 pushed_hexadecimal {a = a} {b = b} {x = x} {y = y} w e f g bytes = replaced (appended 96 96 a (encode_lower w) b x y e f g) (puts_hexadecimal a w bytes)
 
-opened_by : {a b c : List ℕ} {f : Form} → b ≡ c → PutsOpen a c f → PutsOpen a b f
-opened_by {a = a} {f = f} e p = let P : List ℕ → Type 0 = λ x. PutsOpen a x f in subst P (sym e) p
-
-pub pushed_brace : {a b : List ℕ} → b ≡ a ++ 123 ∷ [] → PutsOpen a b Shortest
-pushed_brace {a = a} e = opened_by e (opens_shortest a)
-
-pub pushed_form : {a b c : List ℕ} (t : List ℕ) (f : Form) → b ≡ a ++ t → c ≡ b ++ 32 ∷ 123 ∷ []
-    → (0 < length t) × (list_all is_word t ≡ true) → word_octets t ≡ None → word_form t ≡ Some f → PutsOpen a c f
-pushed_form {a = a} t f e g h none is = opened_by (g ∙ ap (λ x. x ++ 32 ∷ 123 ∷ []) e) (opens_form a t f h.0 h.1 none is)
-
 pub pushed_end : {a b c : List ℕ} → Puts a b [] → c ≡ b ++ 69 ∷ 78 ∷ 68 ∷ 10 ∷ [] → Puts a c (0 ∷ 0 ∷ [])
 pushed_end {b = b} p e = puts_both p (replaced e (puts_end b))
 
@@ -317,18 +307,6 @@ from {c = c} {w = w} e p = let P : List ℕ → Type 0 = λ x. Puts x c w in sub
 pub puts_after : {a b c d w : List ℕ} → Puts a b [] → c ≡ b → Puts c d w → Puts a d w
 puts_after s e p = puts_both s (from e p)
 
-pub is_form : {a b : List ℕ} {f : Form} → f ≡ Shortest → PutsOpen a b Shortest → PutsOpen a b f
-is_form {a = a} {b = b} e p = let P : Form → Type 0 = λ x. PutsOpen a b x in subst P (sym e) p
-
--- no brace is opened: length octets and content
-pub not_opened : {a b c d : List ℕ} (octets w rest : List ℕ) → b ≡ a → Puts b c octets → Puts c d w
-    → Prints a d (octets ++ (w ++ rest)) rest
-not_opened octets w rest e p q = record {
-  printed = octets ++ w;
-  parts = sym (append_assoc octets w rest);
-  puts = puts_both (from e p) q;
-}
-
 pub definite : {a b c d : List ℕ} {f : Form} (octets w rest : List ℕ) → PutsOpen a b f → Puts b c w
     → length_octets f (length w) ≡ Some octets → d ≡ c ++ 125 ∷ 10 ∷ [] → Prints a d (octets ++ (w ++ rest)) rest
 definite octets w rest o p e f = record {
@@ -337,7 +315,7 @@ definite octets w rest o p e f = record {
   puts = replaced f (puts_braces o p e);
 }
 
-nothing : (l : List ℕ) → length l ≡ 0 → l ≡ []
+pub nothing : (l : List ℕ) → length l ≡ 0 → l ≡ []
 nothing [] e = refl
 nothing (x ∷ l) e = absurd (omega (arith, e))
 

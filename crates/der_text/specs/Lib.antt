@@ -3,3 +3,4 @@ pub mod Words
 pub mod Lexemes
 pub mod Texts
 pub mod Printed
+pub mod Looks

@@ -4,6 +4,7 @@ use Rattle.std.specs.Prelude.{Some, Ok, MatchBool}
 use Rattle.der_text.specs.declared.element.Element.{Element}
 use Rattle.der_text.specs.declared.item.End.{End}
 use Rattle.der_text.specs.declared.item.Form.{Form}
+use Rattle.der_text.specs.declared.item.Form.TheVariants.{Long}
 use Rattle.der_text.specs.Encoded.{◌>>=◌, Following, all_before, following, length_octets}
 use Rattle.der_text.specs.Lexemes.{items_of}
 
@@ -38,12 +39,20 @@ pub record Prints (old new octets rest : List ℕ) : Type 0 where
   pub parts : octets ≡ printed ++ rest
   pub puts : Puts old new printed
 
+-- a text that looks so is appended
+pub record Adds (old new : List ℕ) (Looks : List ℕ → Type 0) : Type 0 where
+  pub text : List ℕ
+  pub added : new ≡ old ++ text
+  pub looks : Looks text
+
 -- a text is appended, or none
 abbrev pub MayPut : List ℕ → List ℕ → List ℕ → Bool → Type 0
 MayPut old new w written = MatchBool written (Puts old new w) (new ≡ old)
 
-abbrev pub MayOpen : List ℕ → List ℕ → Form → Bool → Type 0
-MayOpen old new f written = MatchBool written (PutsOpen old new f) (new ≡ old)
+-- how many octets a long form has is an octet
+abbrev pub HasCount : Form → Type 0
+HasCount (Long count) = count < 256
+HasCount _ = Unit {0}
 
 -- what may be in quotes: the characters that ASCII prints, without the quote
 abbrev pub is_plain : ℕ → Bool

@@ -1,7 +1,9 @@
 //! The parts of an element.
-ghost use Rattle.std.specs.Prelude.{◌≡◌, IfSome, IsTrue, Some};
+ghost use Rattle.std.specs.Prelude.{◌≡◌, ◌↔◌, ℕ, List, IfSome, IsTrue, MatchOption, Some};
 ghost use Rattle.der_text.specs.Encoded.{length_octets};
-ghost use Rattle.der_text.specs.Printed.{HasParts};
+ghost use Rattle.der_text.specs.Looks.{HasFirst, IsContent, IsElementOf, IsFirst, IsOnlyFirst};
+ghost use Rattle.der_base.specs.Header.{length_of};
+ghost use Rattle.der_text.specs.declared.item.Form.{Form};
 
 use crate::item::Form;
 use crate::length::{MOST, length_octets};
@@ -18,23 +20,42 @@ pub struct Element<'a> {
     pub rest: &'a [u8],
 }
 
-/// The first element of octets, if its length octets have a form and all its content is there.
+/// The first element of octets by BER, if all its content is there, and its length octets have a form.
 pub(crate) fn split_element(octets: &[u8]) -> Option<Element<'_>>
-    ensures { IfSome result (HasParts octets.now) }
+    ensures first { MatchOption result (¬ HasFirst octets.now) (IsFirst octets.now) }
+    ensures only { IfSome result (IsOnlyFirst octets.now) }
 {
-    let (behind, header) = ber_read_element_header(octets).ok()?;
-    let identifier_length = header.raw_tag()?.len();
-    let (identifier, after) = octets.split_at_checked(identifier_length)?;
-    if identifier.is_empty() {
+    let Ok((behind, header)) = ber_read_element_header(octets) else {
         return None;
-    }
-    let (length, following) = after.split_at_checked(after.len().saturating_sub(behind.len()))?;
-    let content_length = match header.length() {
-        Length::Definite(length) => length,
-        Length::Indefinite => following.len(),
     };
-    let (content, rest) = following.split_at_checked(content_length)?;
-    let form = form_of(length, content.len())?;
+    let Some(identifier) = header.raw_tag() else {
+        return None;
+    };
+    let length = &octets[identifier.len()..octets.len() - behind.len()];
+    split_content(header, identifier, length, behind)
+}
+
+/// An element, given the parts of its header and what is behind that.
+fn split_content<'a>(
+    header: Header<'a>,
+    identifier: &'a [u8],
+    length: &'a [u8],
+    behind: &'a [u8],
+) -> Option<Element<'a>>
+    ensures { MatchOption result
+        ((content rest : List ℕ) (f : Form) → ¬ IsContent (length_of header.entry) length.now behind.now content rest f)
+        (λ x. IsElementOf header.entry identifier.now length.now behind.now x) }
+{
+    let size = match header.length() {
+        Length::Definite(size) => size,
+        Length::Indefinite => behind.len(),
+    };
+    let Some((content, rest)) = behind.split_at_checked(size) else {
+        return None;
+    };
+    let Some(form) = form_of(length, content.len()) else {
+        return None;
+    };
     Some(Element {
         header,
         identifier,
@@ -47,28 +68,36 @@ pub(crate) fn split_element(octets: &[u8]) -> Option<Element<'_>>
 
 /// The form of length octets, if they encode this content length.
 fn form_of(length: &[u8], content: usize) -> Option<Form>
-    ensures { IfSome result (λ f. length_octets f content ≡ Some length.now) }
+    ensures { MatchOption result ((f : Form) → ¬ (length_octets f content ≡ Some length.now))
+        (λ f. length_octets f content ≡ Some length.now) }
 {
-    let forms = [Form::Shortest, Form::Indefinite, long_form(length)];
-    for form in forms {
-        if has_form(length, form, content) {
-            return Some(form);
-        }
+    if has_form(length, Form::Shortest, content) {
+        return Some(Form::Shortest);
+    }
+    if has_form(length, Form::Indefinite, content) {
+        return Some(Form::Indefinite);
+    }
+    long_form(length, content)
+}
+
+/// The long form with the same number of octets, if they encode this content length.
+fn long_form(length: &[u8], content: usize) -> Option<Form>
+    ensures { MatchOption result ((count : ℕ) → ¬ (length_octets (Form.Long count) content ≡ Some length.now))
+        (λ f. length_octets f content ≡ Some length.now) }
+{
+    let Ok(count) = u8::try_from(length.len().saturating_sub(1)) else {
+        return None;
+    };
+    let form = Form::Long(count);
+    if has_form(length, form, content) {
+        return Some(form);
     }
     None
 }
 
-/// The long form with the same number of octets.
-fn long_form(length: &[u8]) -> Form {
-    match u8::try_from(length.len().saturating_sub(1)) {
-        Ok(count) => Form::Long(count),
-        Err(_) => Form::Shortest,
-    }
-}
-
 /// Returns whether length octets have this form and encode this content length.
 fn has_form(length: &[u8], form: Form, content: usize) -> bool
-    ensures { IsTrue result → length_octets form content ≡ Some length.now }
+    ensures { IsTrue result ↔ (length_octets form content ≡ Some length.now) }
 {
     let mut room = [0; MOST];
     match length_octets(&mut room, form, content) {

@@ -1,7 +1,11 @@
 //! The text of octets.
-ghost use Rattle.std.specs.Prelude.{◌≡◌, ◌<◌, ◌≤◌, [], ◌∷◌, ◌++◌, Ok, Some, IfOk, IfSome, IsTrue, OnOk, length};
+ghost use Rattle.std.specs.Prelude.{◌≡◌, ◌↔◌, ◌⊎◌, ◌+◌, ◌*◌, ◌<◌, ◌≤◌, [], ◌∷◌, ◌++◌, Ok, Some, IfOk, IsTrue};
+ghost use Rattle.std.specs.Prelude.{MatchOption, OnOk, codes, length};
+ghost use Rattle.der_base.specs.Pretty.{spaces};
 ghost use Rattle.der_text.specs.Encoded.{length_octets};
-ghost use Rattle.der_text.specs.Printed.{MayPut, Prints, Puts};
+ghost use Rattle.der_text.specs.Looks.{BeginsWithEnd, BracesText, ContentText, ElementText, ElementsText, HasElements};
+ghost use Rattle.der_text.specs.Looks.{IsList, IsToEnd, LineText, ToEndText, ValueText, WritesName, WritesWordOf};
+ghost use Rattle.der_text.specs.Printed.{Adds, MayPut, Prints, Puts};
 ghost use Rattle.der_text.specs.Texts.{octets_of_text};
 
 use crate::element::{Element, split_element};
@@ -24,7 +28,8 @@ const LIMIT: usize = 100;
 /// assert_eq!(text.as_slice(), b"SEQUENCE {\n  INTEGER { 5 }\n}\n");
 /// ```
 pub fn text_of(alloc: Global, octets: &[u8]) -> Result<Vec<u8>, AllocError>
-    ensures { IfOk result (λ text. octets_of_text text.items ≡ Ok octets.now) }
+    ensures octets { IfOk result (λ text. octets_of_text text.items ≡ Ok octets.now) }
+    ensures looks { IfOk result (λ text. ElementsText 0 octets.now text.items) }
 {
     let mut out = Vec::new(alloc);
     write_elements(&mut out, alloc, octets, 0)?;
@@ -40,10 +45,12 @@ fn write_elements(
     depth: usize,
 ) -> Result<(), AllocError>
     requires { depth ≤ 100 }
-    ensures { OnOk result (Puts out.old.items out.new.items octets.now) }
+    ensures puts { OnOk result (Puts out.old.items out.new.items octets.now) }
+    ensures text { OnOk result (Adds out.old.items out.new.items (ElementsText depth octets.now)) }
 {
     if depth == LIMIT {
-        return write_octets(out, octets, indent_of(depth));
+        write_octets(out, octets, indent_of(depth))?;
+        return Ok(());
     }
     let mut rest = octets;
     'elements: while !rest.is_empty() {
@@ -61,7 +68,8 @@ fn write_to_end<'a>(
     depth: usize,
 ) -> Result<&'a [u8], AllocError>
     requires { depth ≤ 100 }
-    ensures { IfOk result (λ rest. Prints out.old.items out.new.items octets.now rest.now) }
+    ensures prints { IfOk result (λ rest. Prints out.old.items out.new.items octets.now rest.now) }
+    ensures text { IfOk result (λ rest. Adds out.old.items out.new.items (ToEndText depth octets.now rest.now)) }
 {
     let mut rest = octets;
     'elements: while !rest.is_empty() {
@@ -80,7 +88,7 @@ fn write_to_end<'a>(
 
 /// The octets after end-of-contents octets, if these are first (X.690 8.1.5).
 fn after_end_marker(octets: &[u8]) -> Option<&[u8]>
-    ensures { IfSome result (λ rest. octets.now ≡ 0 ∷ 0 ∷ rest.now) }
+    ensures { MatchOption result (¬ BeginsWithEnd octets.now) (λ rest. octets.now ≡ 0 ∷ 0 ∷ rest.now) }
 {
     match octets {
         [0, 0, rest @ ..] => Some(rest),
@@ -91,7 +99,8 @@ fn after_end_marker(octets: &[u8]) -> Option<&[u8]>
 /// Writes end-of-contents octets (X.690 8.1.5).
 fn write_end(out: &mut Vec<u8>, depth: usize) -> Result<(), AllocError>
     requires { depth ≤ 100 }
-    ensures { OnOk result (Puts out.old.items out.new.items (0 ∷ 0 ∷ [])) }
+    ensures puts { OnOk result (Puts out.old.items out.new.items (0 ∷ 0 ∷ [])) }
+    ensures text { OnOk result (out.new.items ≡ out.old.items ++ (spaces (2 * depth) ++ codes "END\n")) }
 {
     write_spaces(out, 2 * depth)?;
     out.extend_from_slice(b"END\n")?;
@@ -110,6 +119,7 @@ fn write_element<'a>(
     requires limited { depth < 100 }
     ensures prints { IfOk result (λ rest. Prints out.old.items out.new.items octets.now rest.now) }
     ensures fewer { IfOk result (λ rest. length rest.now < length octets.now) }
+    ensures text { IfOk result (λ rest. Adds out.old.items out.new.items (ElementText depth octets.now rest.now)) }
 {
     write_spaces(out, 2 * depth)?;
     let Some(element) = split_element(octets) else {
@@ -134,15 +144,12 @@ fn write_after_identifier<'a>(
 ) -> Result<&'a [u8], AllocError>
     requires limited { depth < 100 }
     requires form { length_octets element.now.form (length element.now.content.now) ≡ Some element.now.length.now }
-    ensures { let x = element.now in IfOk result (λ rest. Prints out.old.items out.new.items
+    ensures prints { let x = element.now in IfOk result (λ rest. Prints out.old.items out.new.items
         (x.length.now ++ (x.content.now ++ x.rest.now)) rest.now) }
+    ensures text { IfOk result (λ rest. Adds out.old.items out.new.items (BracesText depth element.now rest.now)) }
 {
-    if !write_open(out, alloc, element.form)? {
-        write_octets(out, element.length, indent_of(depth))?;
-        write_line(out, element.content, indent_of(depth))?;
-        return Ok(element.rest);
-    }
-    if is_indefinite(element.form) && element.rest.is_empty() {
+    write_open(out, alloc, element.form)?;
+    if is_to_end(element) {
         write_line_end(out)?;
         let rest = write_to_end(out, alloc, element.content, depth + 1)?;
         write_spaces(out, 2 * depth)?;
@@ -154,11 +161,11 @@ fn write_after_identifier<'a>(
     Ok(element.rest)
 }
 
-/// Returns whether a form is the indefinite one.
-fn is_indefinite(form: Form) -> bool
-    ensures { IsTrue result → form ≡ Form.Indefinite }
+/// Returns whether an element has an indefinite length, and all that follows as its content.
+fn is_to_end(element: &Element<'_>) -> bool
+    ensures { IsTrue result ↔ IsToEnd element.now }
 {
-    matches!(form, Form::Indefinite)
+    matches!(element.form, Form::Indefinite) && element.rest.is_empty()
 }
 
 /// Writes the content of an element.
@@ -170,7 +177,8 @@ fn write_content(
     depth: usize,
 ) -> Result<(), AllocError>
     requires { depth < 100 }
-    ensures { OnOk result (Puts out.old.items out.new.items element.now.content.now) }
+    ensures puts { OnOk result (Puts out.old.items out.new.items element.now.content.now) }
+    ensures text { OnOk result (Adds out.old.items out.new.items (ContentText depth element.now)) }
 {
     if has_elements(element) {
         write_line_end(out)?;
@@ -184,7 +192,9 @@ fn write_content(
 }
 
 /// Returns whether the content of an element is written as elements.
-fn has_elements(element: &Element<'_>) -> bool {
+fn has_elements(element: &Element<'_>) -> bool
+    ensures { IsTrue result ↔ HasElements element.now }
+{
     if element.header.is_constructed() {
         return true;
     }
@@ -193,13 +203,20 @@ fn has_elements(element: &Element<'_>) -> bool {
 }
 
 /// Returns whether octets are a SEQUENCE or a SET, by the header.
-fn is_list(octets: &[u8]) -> bool {
+fn is_list(octets: &[u8]) -> bool
+    ensures { IsTrue result ↔ IsList octets.now }
+{
     match split_element(octets) {
-        Some(element) => {
-            element.rest.is_empty() && matches!(element.identifier, [0x30] | [0x31])
-        }
+        Some(element) => element.rest.is_empty() && is_of_list(element.identifier),
         None => false,
     }
+}
+
+/// Returns whether identifier octets are those of a SEQUENCE or a SET.
+fn is_of_list(identifier: &[u8]) -> bool
+    ensures { IsTrue result ↔ ((identifier.now ≡ 0x30 ∷ []) ⊎ (identifier.now ≡ 0x31 ∷ [])) }
+{
+    matches!(identifier, [0x30] | [0x31])
 }
 
 /// Writes the content of a primitive element.
@@ -209,7 +226,8 @@ fn write_value(
     element: &Element<'_>,
     indent: usize,
 ) -> Result<(), AllocError>
-    ensures { OnOk result (Puts out.old.items out.new.items element.now.content.now) }
+    ensures puts { OnOk result (Puts out.old.items out.new.items element.now.content.now) }
+    ensures text { OnOk result (Adds out.old.items out.new.items (ValueText element.now indent)) }
 {
     if write_value_word(out, alloc, element)? {
         return Ok(());
@@ -224,7 +242,8 @@ fn write_value_word(
     alloc: Global,
     element: &Element<'_>,
 ) -> Result<bool, AllocError>
-    ensures { IfOk result (MayPut out.old.items out.new.items element.now.content.now) }
+    ensures puts { IfOk result (MayPut out.old.items out.new.items element.now.content.now) }
+    ensures text { IfOk result (WritesWordOf element.now out.old.items out.new.items) }
 {
     match value_word(alloc, element)? {
         Some(word) => write_word(out, alloc, word.as_bytes(), element.content),
@@ -238,7 +257,8 @@ fn write_identifier(
     alloc: Global,
     element: &Element<'_>,
 ) -> Result<bool, AllocError>
-    ensures { IfOk result (MayPut out.old.items out.new.items element.now.identifier.now) }
+    ensures puts { IfOk result (MayPut out.old.items out.new.items element.now.identifier.now) }
+    ensures text { IfOk result (WritesName element.now out.old.items out.new.items) }
 {
     if let Some(name) = type_name(element.identifier) {
         return write_word(out, alloc, name, element.identifier);
@@ -250,13 +270,15 @@ fn write_identifier(
 /// The indentation of further lines of octets.
 fn indent_of(depth: usize) -> usize
     requires { depth ≤ 100 }
+    ensures { result ≡ 2 * depth + 2 }
 {
     2 * depth + 2
 }
 
 /// Writes octets on one or several lines.
 fn write_line(out: &mut Vec<u8>, octets: &[u8], indent: usize) -> Result<(), AllocError>
-    ensures { OnOk result (Puts out.old.items out.new.items octets.now) }
+    ensures puts { OnOk result (Puts out.old.items out.new.items octets.now) }
+    ensures text { OnOk result (Adds out.old.items out.new.items (LineText indent octets.now)) }
 {
     write_octets(out, octets, indent)?;
     write_line_end(out)?;

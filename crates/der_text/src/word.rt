@@ -4,6 +4,7 @@ ghost use Rattle.std.specs.Char.{is_ascii_digit};
 ghost use Rattle.std.specs.List.{list_all};
 ghost use Rattle.std.specs.Option.{option_and_then, option_copied, option_map};
 ghost use Rattle.der_base.specs.Octets.{shortest_integer};
+ghost use Rattle.der_text.specs.Looks.{name_of_type, word_in};
 ghost use Rattle.der_text.specs.Words.{complements, decimal_number, identifier_octets, integer_octets, is_dotted};
 ghost use Rattle.der_text.specs.Words.{basic_types, constructed_types, in_table, known_octets, negative_octets};
 ghost use Rattle.der_text.specs.Words.{other_types, same, string_types, value_words, word_form, word_octets};
@@ -147,15 +148,50 @@ fn row_of<'r>(
 }
 
 /// The name of the universal type with these identifier octets.
-pub(crate) fn type_name(identifier: &[u8]) -> Option<&'static [u8]> {
+pub(crate) fn type_name(identifier: &[u8]) -> Option<&'static [u8]>
+    ensures { option_map (λ n. n.now) result ≡ name_of_type identifier.now }
+{
+    if let Some(name) = basic_name(identifier) {
+        return Some(name);
+    }
+    if let Some(name) = constructed_name(identifier) {
+        return Some(name);
+    }
+    if let Some(name) = string_name(identifier) {
+        return Some(name);
+    }
+    other_name(identifier)
+}
+
+fn basic_name(identifier: &[u8]) -> Option<&'static [u8]>
+    ensures { option_map (λ n. n.now) result ≡ word_in basic_types identifier.now }
+{
     name_in(&BASIC_TYPES, identifier)
-        .or(name_in(&CONSTRUCTED_TYPES, identifier))
-        .or(name_in(&STRING_TYPES, identifier))
-        .or(name_in(&OTHER_TYPES, identifier))
+}
+
+fn constructed_name(identifier: &[u8]) -> Option<&'static [u8]>
+    ensures { option_map (λ n. n.now) result ≡ word_in constructed_types identifier.now }
+{
+    name_in(&CONSTRUCTED_TYPES, identifier)
+}
+
+fn string_name(identifier: &[u8]) -> Option<&'static [u8]>
+    ensures { option_map (λ n. n.now) result ≡ word_in string_types identifier.now }
+{
+    name_in(&STRING_TYPES, identifier)
+}
+
+fn other_name(identifier: &[u8]) -> Option<&'static [u8]>
+    ensures { option_map (λ n. n.now) result ≡ word_in other_types identifier.now }
+{
+    name_in(&OTHER_TYPES, identifier)
 }
 
 /// The word with these octets.
-fn name_in(rows: &[(&'static [u8], &'static [u8])], identifier: &[u8]) -> Option<&'static [u8]> {
+fn name_in(rows: &[(&'static [u8], &'static [u8])], identifier: &[u8]) -> Option<&'static [u8]>
+    ensures { option_map (λ n. n.now) result
+        ≡ option_map (λ row. row.0.now) (find (λ row. same row.1.now identifier.now) rows.now) }
+{
     let (name, _) = rows.iter().find(|(_, octets)| *octets == identifier)?;
     Some(name)
 }

@@ -1,16 +1,18 @@
 //! Parts of a text.
-ghost use Rattle.std.specs.Prelude.{◌≡◌, ◌<◌, ◌≤◌, [], ◌∷◌, ◌++◌, true, IfOk, IsTrue, None, OnOk, Some, length, not};
+ghost use Rattle.std.specs.Prelude.{◌≡◌, ◌↔◌, ◌<◌, ◌≤◌, [], ◌∷◌, ◌++◌, true, IfOk, IsTrue, OnOk, Some};
+ghost use Rattle.std.specs.Prelude.{length, not, string_bytes};
 ghost use Rattle.std.specs.List.{list_all};
 ghost use Rattle.std.specs.Option.{option_map};
 ghost use Rattle.hex.specs.Hex.{encode_lower};
 ghost use Rattle.der_text.specs.Lexemes.{ends_part, is_word};
-ghost use Rattle.der_text.specs.Words.{word_form, word_octets};
-ghost use Rattle.der_text.specs.Printed.{MayOpen, MayPut, Puts, is_plain};
+ghost use Rattle.der_base.specs.Pretty.{spaces};
+ghost use Rattle.der_text.specs.Looks.{HasTag, HasWord, WritesIf, form_word, open_text};
+ghost use Rattle.der_text.specs.Printed.{HasCount, MayPut, Puts, PutsOpen, is_plain};
 
 use crate::item::Form;
 use crate::lexeme::is_word;
 use crate::tag::tag_octets;
-use crate::word::{word_form, word_octets};
+use crate::word::word_octets;
 use std::alloc::{AllocError, Global};
 
 /// The most hexadecimal octets of one part.
@@ -18,7 +20,8 @@ pub(crate) const MANY: usize = 32;
 
 /// Writes spaces.
 pub(crate) fn write_spaces(out: &mut Vec<u8>, count: usize) -> Result<(), AllocError>
-    ensures { OnOk result (Puts out.old.items out.new.items []) }
+    ensures puts { OnOk result (Puts out.old.items out.new.items []) }
+    ensures text { OnOk result (out.new.items ≡ out.old.items ++ spaces count) }
 {
     'spaces: for _ in 0..count {
         out.push(b' ')?;
@@ -28,7 +31,8 @@ pub(crate) fn write_spaces(out: &mut Vec<u8>, count: usize) -> Result<(), AllocE
 
 /// Writes a line end.
 pub(crate) fn write_line_end(out: &mut Vec<u8>) -> Result<(), AllocError>
-    ensures { OnOk result (Puts out.old.items out.new.items []) }
+    ensures puts { OnOk result (Puts out.old.items out.new.items []) }
+    ensures text { OnOk result (out.new.items ≡ out.old.items ++ 10 ∷ []) }
 {
     out.push(b'\n')?;
     Ok(())
@@ -41,7 +45,9 @@ pub(crate) fn write_word(
     word: &[u8],
     octets: &[u8],
 ) -> Result<bool, AllocError>
-    ensures { IfOk result (MayPut out.old.items out.new.items octets.now) }
+    ensures puts { IfOk result (MayPut out.old.items out.new.items octets.now) }
+    ensures text { IfOk result
+        (WritesIf (HasWord word.now octets.now) out.old.items out.new.items (word.now ++ 32 ∷ [])) }
 {
     if !are_word(word) {
         return Ok(false);
@@ -62,7 +68,9 @@ pub(crate) fn write_tag(
     tag: &[u8],
     identifier: &[u8],
 ) -> Result<bool, AllocError>
-    ensures { IfOk result (MayPut out.old.items out.new.items identifier.now) }
+    ensures puts { IfOk result (MayPut out.old.items out.new.items identifier.now) }
+    ensures text { IfOk result
+        (WritesIf (HasTag tag.now identifier.now) out.old.items out.new.items (91 ∷ (tag.now ++ 93 ∷ 32 ∷ []))) }
 {
     if !is_inside(tag) {
         return Ok(false);
@@ -80,7 +88,8 @@ pub(crate) fn write_tag(
 /// Writes octets in quotes, and a space.
 pub(crate) fn write_quoted(out: &mut Vec<u8>, octets: &[u8]) -> Result<(), AllocError>
     requires { list_all is_plain octets.now ≡ true }
-    ensures { OnOk result (Puts out.old.items out.new.items octets.now) }
+    ensures puts { OnOk result (Puts out.old.items out.new.items octets.now) }
+    ensures text { OnOk result (out.new.items ≡ out.old.items ++ 34 ∷ (octets.now ++ 34 ∷ 32 ∷ [])) }
 {
     out.push(b'"')?;
     out.extend_from_slice(octets)?;
@@ -91,7 +100,8 @@ pub(crate) fn write_quoted(out: &mut Vec<u8>, octets: &[u8]) -> Result<(), Alloc
 /// Writes octets in hexadecimal, and a space.
 pub(crate) fn write_hexadecimal(out: &mut Vec<u8>, octets: &[u8]) -> Result<(), AllocError>
     requires { length octets.now ≤ 32 }
-    ensures { OnOk result (Puts out.old.items out.new.items octets.now) }
+    ensures puts { OnOk result (Puts out.old.items out.new.items octets.now) }
+    ensures text { OnOk result (out.new.items ≡ out.old.items ++ 96 ∷ (encode_lower octets.now ++ 96 ∷ 32 ∷ [])) }
 {
     let mut room = [0; 2 * MANY];
     let digits = digits_of(&mut room, octets);
@@ -113,20 +123,26 @@ fn digits_of<'a>(room: &'a mut [u8; 64], octets: &[u8]) -> &'a [u8]
     digits
 }
 
-/// Writes the form of length octets and a brace, if there is a word for the form.
-pub(crate) fn write_open(out: &mut Vec<u8>, alloc: Global, form: Form) -> Result<bool, AllocError>
-    ensures { IfOk result (MayOpen out.old.items out.new.items form) }
+/// Writes the form of length octets, and a brace.
+pub(crate) fn write_open(out: &mut Vec<u8>, alloc: Global, form: Form) -> Result<(), AllocError>
+    ensures puts { OnOk result (PutsOpen out.old.items out.new.items form) }
+    ensures text { OnOk result (out.new.items ≡ out.old.items ++ open_text form) }
+{
+    let word = form_word(alloc, form)?;
+    out.extend_from_slice(word.as_bytes())?;
+    out.push(b'{')?;
+    Ok(())
+}
+
+/// The word for a form of length octets, and a space. Empty for the shortest form.
+fn form_word(alloc: Global, form: Form) -> Result<String, AllocError>
+    ensures word { IfOk result (λ word. string_bytes word ≡ form_word form) }
+    ensures count { HasCount form }
 {
     match form {
-        Form::Shortest => {
-            out.push(b'{')?;
-            Ok(true)
-        }
-        Form::Long(count) => {
-            let word = format!(in alloc; "long-form:{count}")?;
-            write_form(out, alloc, word.as_bytes(), form)
-        }
-        Form::Indefinite => write_form(out, alloc, b"indefinite", form),
+        Form::Shortest => Ok(String::new(alloc)),
+        Form::Long(count) => format!(in alloc; "long-form:{count} "),
+        Form::Indefinite => format!(in alloc; "indefinite "),
     }
 }
 
@@ -138,49 +154,9 @@ pub(crate) fn write_close(out: &mut Vec<u8>) -> Result<(), AllocError>
     Ok(())
 }
 
-/// Writes a word for a form of length octets, and a brace, if the word has this form.
-fn write_form(out: &mut Vec<u8>, alloc: Global, word: &[u8], form: Form) -> Result<bool, AllocError>
-    ensures { IfOk result (MayOpen out.old.items out.new.items form) }
-{
-    if !are_word(word) {
-        return Ok(false);
-    }
-    if !names_form(alloc, word, form)? {
-        return Ok(false);
-    }
-    out.extend_from_slice(word)?;
-    out.extend_from_slice(b" {")?;
-    Ok(true)
-}
-
-/// Returns whether a word names a form and has no octets.
-fn names_form(alloc: Global, word: &[u8], form: Form) -> Result<bool, AllocError>
-    ensures { IfOk result (λ yes. IsTrue yes → (word_octets word.now ≡ None) × (word_form word.now ≡ Some form)) }
-{
-    let found = word_octets(alloc, word)?;
-    if found.is_some() {
-        return Ok(false);
-    }
-    match word_form(word) {
-        Some(named) => Ok(is_form(named, form)),
-        None => Ok(false),
-    }
-}
-
-/// Returns whether two forms are the same.
-fn is_form(named: Form, form: Form) -> bool
-    ensures { IsTrue result → named ≡ form }
-{
-    match (named, form) {
-        (Form::Long(one), Form::Long(other)) => one == other,
-        (Form::Indefinite, Form::Indefinite) => true,
-        _ => false,
-    }
-}
-
 /// Returns whether octets are a word.
 fn are_word(word: &[u8]) -> bool
-    ensures { IsTrue result → (0 < length word.now) × (list_all is_word word.now ≡ true) }
+    ensures { IsTrue result ↔ (0 < length word.now) × (list_all is_word word.now ≡ true) }
 {
     !word.is_empty() && all_in_words(word)
 }
@@ -194,7 +170,7 @@ fn all_in_words(word: &[u8]) -> bool
 
 /// Returns whether the octets that were found are these.
 fn has_octets(found: Option<Vec<u8>>, octets: &[u8]) -> bool
-    ensures { IsTrue result → option_map (λ v. v.items) found ≡ Some octets.now }
+    ensures { IsTrue result ↔ (option_map (λ v. v.items) found ≡ Some octets.now) }
 {
     match found {
         Some(found) => found.as_slice() == octets,

@@ -1,8 +1,11 @@
 //! Calls that write the texts of errors, faults and tags.
 ghost use Rattle.std.specs.Prelude.{List, ℕ, ◌++◌, codes};
+ghost use Rattle.c_values.specs.FaultTexts.{found_text};
 ghost use Rattle.c_values.specs.Texts.{PutsText};
 
-use c_values::error_text::{words_of, words_of_error, words_of_tag, words_with_tag};
+use c_values::error_text::{
+    PEM_INPUT, is_pem, words_of, words_of_error, words_of_tag, words_with_tag,
+};
 use c_values::fault::DmFault;
 use c_values::state::class_of;
 use c_values::text::put_text;
@@ -35,11 +38,14 @@ pub extern "C" fn dm_named_fault_text(fault: &DmFault, name: &[u8], text: &mut [
 }
 
 /// Writes the text of a fault of this input. If a tag or a class is unexpected, the tag that was found follows: ",
-/// found [APPLICATION 10]". Returns the length.
+/// found [APPLICATION 10]". If the input is PEM, the text says so instead. Returns the length.
 #[unsafe(no_mangle)]
 pub extern "C" fn dm_found_text(fault: &DmFault, input: &[u8], text: &mut [u8]) -> usize
-    ensures { (words : List ℕ) × PutsText text.old 0 words text.new result }
+    ensures { (words : List ℕ) × PutsText text.old 0 (found_text fault.now input.now words) text.new result }
 {
+    if is_pem(fault, input) {
+        return put_text(text, 0, PEM_INPUT.as_bytes());
+    }
     let whole = words_with_tag(fault, input);
     put_text(text, 0, whole.as_str().as_bytes())
 }

@@ -3,6 +3,7 @@ ghost use Rattle.std.specs.Prelude.{◌≡◌};
 ghost use Rattle.c_formats.specs.ExtensionLists.{HasItems};
 ghost use Rattle.c_formats.specs.ExtensionValues.{IsAuthority, IsConstraints, IsOctets, IsUsage, names_octets};
 ghost use Rattle.c_formats.specs.ExtensionValues.{purposes_octets};
+ghost use Rattle.c_formats.specs.Found.{ReadsAltNames};
 ghost use Rattle.c_values.specs.Faults.{Reads, value_fault};
 ghost use Rattle.der_base.specs.declared.rules.Rules.TheVariants.{Der};
 ghost use Rattle.der_cursor.specs.Formats.{Never, OctetString, ReadsInput};
@@ -15,6 +16,7 @@ use c_formats::extension::{
     DmAuthorityKeyIdentifier, DmBasicConstraints, value_fault, write_authority, write_constraints,
     write_usage,
 };
+use c_formats::found::write_alt_names;
 use c_formats::writing::{write_list, write_octets};
 use c_values::fault::DmFault;
 use c_values::octets::DmOctets;
@@ -61,6 +63,20 @@ pub extern "C" fn dm_read_general_names<'a>(
     ensures status { result ≡ fault.new.status }
 {
     *fault = write_list(read_general_names(value), names);
+    fault.status
+}
+
+/// Reads the names of the one SubjectAltName among extensions; no names if there is none. Returns the fault's status.
+#[unsafe(no_mangle)]
+pub extern "C" fn dm_read_subject_alt_names<'a>(
+    extensions: &DmOctets<'a>,
+    names: &mut DmOctets<'a>,
+    fault: &mut DmFault,
+) -> u32
+    ensures exactly { ReadsAltNames extensions.now.octets.now names.old names.new fault.new }
+    ensures status { result ≡ fault.new.status }
+{
+    *fault = write_alt_names(*extensions, names);
     fault.status
 }
 

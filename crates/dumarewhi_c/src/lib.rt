@@ -10,6 +10,7 @@ pub mod error_text;
 pub mod extension;
 pub mod fields;
 pub mod key;
+pub mod key_kind;
 pub mod lists;
 pub mod name_text;
 pub mod next;

@@ -1,4 +1,5 @@
 //! Calls that take items of the lists of a certificate. A call takes the first item from the octets.
+ghost use Rattle.c_formats.specs.Found.{FindsExtension, TakesDns};
 ghost use Rattle.c_formats.specs.Items.{IsAttribute, IsExtension, IsGeneralName, IsPurpose, IsRelativeName, Takes};
 ghost use Rattle.c_formats.specs.Items.{left};
 ghost use Rattle.der_cursor.specs.Formats.{ObjectIdentifier as IdentifierFormat, Required};
@@ -9,6 +10,7 @@ ghost use Rattle.der_values.specs.Kinds.{borrowed_octets};
 ghost use Rattle.x509.specs.Certificates.{extension as extension_format, extension_of};
 ghost use Rattle.x509.specs.Lists.{YieldsNext};
 
+use c_formats::found::{find_extension, take_dns_name};
 use c_formats::items::{DmAttribute, DmExtension, DmGeneralName, attribute, extension};
 use c_formats::lists::{
     next_extension, next_item, write_attribute, write_extension, write_general_name, write_purpose,
@@ -62,6 +64,18 @@ pub extern "C" fn dm_next_extension<'a>(
     write_extension(next_extension(extensions), extension)
 }
 
+/// Finds the first extension of this kind in a list. Returns 1, or 0 if there is none.
+#[unsafe(no_mangle)]
+pub extern "C" fn dm_find_extension<'a>(
+    extensions: &DmOctets<'a>,
+    kind: u32,
+    extension: &mut DmExtension<'a>,
+) -> u32
+    ensures { FindsExtension kind extensions.now.octets.now extension.old extension.new result }
+{
+    find_extension(*extensions, kind, extension)
+}
+
 /// Takes the next general name. Returns 1, or 0 if there is none.
 #[unsafe(no_mangle)]
 pub extern "C" fn dm_next_general_name<'a>(
@@ -72,6 +86,14 @@ pub extern "C" fn dm_next_general_name<'a>(
         IsGeneralName name.old name.new result }
 {
     write_general_name(next_item::<GeneralName<'a>, BerError>(names), name)
+}
+
+/// Takes the names up to the next DNS name, and writes its text. Returns 1, or 0 if there is none; then nothing is taken.
+#[unsafe(no_mangle)]
+pub extern "C" fn dm_next_dns_name<'a>(names: &mut DmOctets<'a>, text: &mut DmOctets<'a>) -> u32
+    ensures { TakesDns names.old names.new text.old text.new result }
+{
+    take_dns_name(names, text)
 }
 
 /// Takes the next key purpose: the content octets of its OID. Returns 1, or 0 if there is none.

@@ -1,6 +1,7 @@
 //! Calls that read the next field of a cursor. Each returns the fault's status. If it isn't 0, the cursor and the value
 //! stay.
 ghost use Rattle.std.specs.Prelude.{◌≡◌, ◌≤◌, ◌↔◌, Result, pos, true};
+ghost use Rattle.c_formats.specs.CursorTexts.{ReadsText};
 ghost use Rattle.c_values.specs.Cursors.{Continues, IsAny, IsBit, IsBits, IsIdentifier, IsInner, IsNull, IsOctets};
 ghost use Rattle.c_values.specs.Cursors.{IsSame, IsTime, ReadsField, end_fault, exact_bit_strings, rules_in};
 ghost use Rattle.c_values.specs.Writers.{class_of, is_set};
@@ -14,6 +15,7 @@ ghost use Rattle.der_cursor.specs.Elements.{IsNext};
 ghost use Rattle.der_values.specs.Kinds.{booleans, borrowed_octets, enumerated_numbers, identifiers};
 ghost use Rattle.der_values.specs.Kinds.{integers, nulls, numbers, octet_strings, times};
 
+use c_formats::text::next_text;
 use c_values::any::DmAny;
 use c_values::cursor::{DmCursor, finish, resume, resume_enumerated};
 use c_values::element::bit;
@@ -130,6 +132,22 @@ pub extern "C" fn dm_next_octets<'a>(
     let mut fields = resume(cursor);
     let found = fields.octets();
     *fault = finish_octets(cursor, fields, found, octets);
+    fault.status
+}
+
+/// Reads a text of the string type with this tag number (X.690 8.23). A number of no such type is an error.
+#[unsafe(no_mangle)]
+pub extern "C" fn dm_next_text<'a>(
+    cursor: &mut DmCursor<'a>,
+    number: u32,
+    text: &mut DmOctets<'a>,
+    fault: &mut DmFault,
+) -> u32
+    ensures exactly { ReadsField (ReadsText number) IsOctets
+        cursor.old cursor.new text.old text.new fault.new }
+    ensures status { result ≡ fault.new.status }
+{
+    *fault = next_text(cursor, number, text);
     fault.status
 }
 

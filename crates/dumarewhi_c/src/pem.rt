@@ -1,6 +1,7 @@
 //! Calls that find PEM blocks (RFC 7468) and decode them into the caller's buffers.
 ghost use Rattle.std.specs.Borrow.{Bor};
 ghost use Rattle.std.specs.Prelude.{List, Option, Result, length, ℕ};
+ghost use Rattle.c_formats.specs.Decode.{DecodesInput};
 ghost use Rattle.c_formats.specs.Items.{Taken};
 ghost use Rattle.c_values.specs.Cursors.{IsSame};
 ghost use Rattle.c_values.specs.Pem.{AnswersBlock, TakesBlock};
@@ -8,6 +9,7 @@ ghost use Rattle.der_input.specs.declared.error.FormError.{FormError};
 ghost use Rattle.der_input.specs.declared.pem.Block.{Block};
 ghost use Rattle.der_input.specs.Blocks.{first_begin};
 
+use c_formats::decode::decode_input;
 use c_values::octets::DmOctets;
 use c_values::pem::{DmPem, take_block};
 use der_input::{Block, FormError, first_begin, next_block};
@@ -39,4 +41,13 @@ pub extern "C" fn dm_find_pem(text: &[u8], offset: &mut usize) -> u32
         }
         None => 0,
     }
+}
+
+/// Writes the octets of an input to the start of a buffer, and their number: those of the first block of PEM, or the
+/// input as it is if it isn't PEM. Returns 0, or the number of the error; then there are no octets.
+#[unsafe(no_mangle)]
+pub extern "C" fn dm_decode_input(input: &[u8], room: &mut [u8], size: &mut usize) -> u32
+    ensures { DecodesInput input.now room.old room.new size.new result }
+{
+    decode_input(input, room, size)
 }

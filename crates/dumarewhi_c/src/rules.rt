@@ -1,10 +1,10 @@
 //! Calls that name the rules of RFC 5280 that a certificate or a CRL breaks.
-ghost use Rattle.std.specs.Prelude.{◌≡◌};
+ghost use Rattle.std.specs.Prelude.{◌≡◌, List, ℕ};
 ghost use Rattle.c_formats.specs.Certificates.{certificate_fault};
 ghost use Rattle.c_formats.specs.RevokedLists.{list_fault};
 ghost use Rattle.c_formats.specs.Rules.{HasBroken, ListHasBroken, rule_kind};
 ghost use Rattle.c_values.specs.Faults.{Reads};
-ghost use Rattle.c_values.specs.Texts.{PutsSome};
+ghost use Rattle.c_values.specs.Texts.{PutsText};
 ghost use Rattle.x509.specs.Certificates.{ReadsCertificate};
 ghost use Rattle.x509.specs.Crl.Lists.{certificate_list_of, field_fault as crl_fault, whole_list};
 ghost use Rattle.x509.specs.Readers.{ReadsExactly};
@@ -51,7 +51,7 @@ pub extern "C" fn dm_broken_crl_rules(
 /// Writes the sentence of the rule with this number. Returns its length; 0 if there is no such rule.
 #[unsafe(no_mangle)]
 pub extern "C" fn dm_rule_text(rule: u32, text: &mut [u8]) -> usize
-    ensures { PutsSome text.old 0 text.new result }
+    ensures { (words : List ℕ) × PutsText text.old 0 words text.new result }
 {
     put_text(text, 0, words_of_rule(rule).as_str().as_bytes())
 }

@@ -1,5 +1,5 @@
 pub mod BackLaws
 pub mod LengthLaws
 pub mod LoopLaws
-pub mod WideLaws
+pub mod EscapeLaws
 pub mod WriteLaws

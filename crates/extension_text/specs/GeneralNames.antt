@@ -1,5 +1,5 @@
 -- General names (RFC 5280 4.2.1.6).
-use Rattle.std.specs.Prelude.{ℕ, ◌==◌, if◌then◌else◌, List, ◌++◌, codes, length}
+use Rattle.std.specs.Prelude.{ℕ, ◌/◌, ◌==◌, ◌||◌, Bool, if◌then◌else◌, List, ◌++◌, codes, drop, length, take}
 use Rattle.std.specs.Net.Addr.{segments_of}
 use Rattle.std.specs.Net.Text.{ipv4_text, ipv6_text}
 use Rattle.der_base.specs.declared.rules.Rules.TheVariants.{Der}
@@ -15,8 +15,19 @@ use Rattle.extension_text.specs.Names.Values.{any_text, hex, octets_line, plain_
 abbrev pub longer_text : List ℕ → List ℕ
 longer_text w = if length w == 16 then ipv6_text (segments_of w) else hex w
 
+abbrev pub host_text : List ℕ → List ℕ
+host_text w = if length w == 4 then ipv4_text w else longer_text w
+
+-- an address and a mask, which are equally long (4.2.1.10)
+abbrev pub has_mask : List ℕ → Bool
+has_mask w = (length w == 8) || (length w == 32)
+
+abbrev pub masked_text : List ℕ → List ℕ → List ℕ
+masked_text address mask = host_text address ++ (codes "/" ++ host_text mask)
+
 abbrev pub address_text : List ℕ → List ℕ
-address_text w = if length w == 4 then ipv4_text w else longer_text w
+address_text w =
+    if has_mask w then masked_text (take (length w / 2) w) (drop (length w / 2) w) else host_text w
 
 abbrev pub address_line : List ℕ → List ℕ
 address_line w = codes "IP address: " ++ (address_text w ++ codes "\n")

@@ -3,4 +3,3 @@ pub mod Identifiers
 pub mod Names
 pub mod Pieces
 pub mod Values
-pub mod Wide

@@ -6,6 +6,5 @@ pub mod identifier;
 pub mod lines;
 pub mod name;
 pub mod serial;
-mod wide;
 
 pub use name::{NameText, write_name};

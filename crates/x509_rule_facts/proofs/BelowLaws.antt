@@ -18,18 +18,18 @@ last_one (z ∷ xs) (w ∷ ys) x y e =
     let same = last_one xs ys x y rest in
     (let others : xs ≡ ys = same.0 in cc, same.1)
 
-pub below_same : {arcs o before : List ℕ} {low high last : ℕ} {r t : Bool} → o ≡ before ++ last ∷ []
-    → IsTrue t ↔ (before ≡ arcs) → IsTrue t → IsTrue r ↔ ((low ≤ last) × (last ≤ high))
+pub below_within : {arcs o before : List ℕ} {low high last : ℕ} {r t : Bool} → o ≡ before ++ last ∷ []
+    → IsTrue t ↔ ((low ≤ last) × (last ≤ high)) → IsTrue t → IsTrue r ↔ (before ≡ arcs)
     → IsTrue r ↔ IsBelow arcs low high o
-below_same {arcs = arcs} {before = before} {low = low} {high = high} {last = last} e s y w = (
-  λ h. let k = w.0 h in (last, e ∙ ap (λ z. z ++ last ∷ []) (s.0 y), k.0, k.1),
-  λ (n, f, l, m). let same = last_one before arcs last n (sym e ∙ f) in
-      w.1 (subst (λ z. (low ≤ z) × (z ≤ high)) (sym same.1) (l, m)),
+below_within {arcs = arcs} {before = before} {last = last} e w y s = (
+  λ h. let k = w.0 y in (last, e ∙ ap (λ z. z ++ last ∷ []) (s.0 h), k.0, k.1),
+  λ (n, f, l, m). s.1 (last_one before arcs last n (sym e ∙ f)).0,
 )
 
-pub below_other : {arcs o before : List ℕ} (last : ℕ) {low high : ℕ} {t : Bool} → o ≡ before ++ last ∷ []
-    → IsTrue t ↔ (before ≡ arcs) → t ≡ false → IsTrue t ↔ IsBelow arcs low high o
-below_other {arcs = arcs} {before = before} last e s n = (
-  λ h. absurd (false≢true (sym n ∙ h)),
-  λ (m, f, l, k). absurd (false≢true (sym n ∙ s.1 (last_one before arcs last m (sym e ∙ f)).0)),
+pub below_other : (arcs before : List ℕ) (last : ℕ) {o : List ℕ} {low high : ℕ} {t : Bool} → o ≡ before ++ last ∷ []
+    → IsTrue t ↔ ((low ≤ last) × (last ≤ high)) → t ≡ false → IsTrue t ↔ IsBelow arcs low high o
+below_other arcs before last {low = low} {high = high} e w out = (
+  λ h. absurd (false≢true (sym out ∙ h)),
+  λ (n, f, l, m). let same = last_one before arcs last n (sym e ∙ f) in
+      absurd (false≢true (sym out ∙ w.1 (subst (λ z. (low ≤ z) × (z ≤ high)) (sym same.1) (l, m)))),
 )

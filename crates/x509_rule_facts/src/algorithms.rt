@@ -154,7 +154,7 @@ fn is_below(arcs: &[u8], low: u8, high: u8, octets: &[u8]) -> bool
     ensures { IsTrue result ↔ IsBelow arcs.now low high octets.now }
 {
     match octets.split_last() {
-        Some((last, before)) => are_same(before, arcs) && is_within(*last, low, high),
+        Some((last, before)) => is_within(*last, low, high) && are_same(before, arcs),
         None => false,
     }
 }

@@ -1,1 +1,2 @@
 pub mod IssuerLaws
+pub mod MarkLaws

@@ -1,4 +1,5 @@
 pub mod Entries
 pub mod Examined
 pub mod ListRules
+pub mod Marks
 pub mod WholeLists

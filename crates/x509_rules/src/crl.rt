@@ -3,6 +3,7 @@ mod display;
 mod entries;
 mod examined;
 mod fields;
+mod marks;
 mod revoked;
 mod whole_list;
 

@@ -142,7 +142,7 @@ fn breaks_key_identifier_of_issuer(certificate: &Examined<'_, '_>) -> bool
     requires { IsExamined certificate.now }
     ensures { IsTrue result ↔ BreaksWhole WholeRule.KeyIdentifierOfIssuer (signed_of certificate.now) }
 {
-    !is_self_issued(certificate.signed) && !tells(certificate, ValueFact::KeyIdentifier)
+    !tells(certificate, ValueFact::KeyIdentifier) && !is_self_issued(certificate.signed)
 }
 
 fn breaks_key_identifier_of_authority(certificate: &Examined<'_, '_>) -> bool

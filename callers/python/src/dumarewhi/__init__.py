@@ -16,10 +16,10 @@ keys, and ``dumarewhi.pem`` PEM.
 Any thread may read any tree at any time. A :class:`Reader` or :class:`Writer` is for one thread at a time.
 """
 from ._errors import DerError, Incomplete, named
-from ._header import MAX_DEPTH, Rule
-from ._library import DEFAULT_DEPTH, Rules, rule_text
+from ._header import MAX_DEPTH, Class, Reason
+from ._library import DEFAULT_DEPTH, Rules, error_text
 from ._reader import Reader
-from ._tag import AnyTag, Tag, TagClass
+from ._tag import AnyTag, Tag
 from ._tree import Node, Tree, Value, check_ber, check_der, parse_ber, parse_der, to_der
 from ._values import BitString, ObjectIdentifier
 from ._writer import Block, Writer
@@ -30,6 +30,7 @@ __all__ = [
     "AnyTag",
     "BitString",
     "Block",
+    "Class",
     "DEFAULT_DEPTH",
     "DerError",
     "Incomplete",
@@ -37,19 +38,18 @@ __all__ = [
     "Node",
     "ObjectIdentifier",
     "Reader",
-    "Rule",
+    "Reason",
     "Rules",
     "Tag",
-    "TagClass",
     "Tree",
     "Value",
     "Writer",
     "__version__",
     "check_ber",
     "check_der",
+    "error_text",
     "named",
     "parse_ber",
     "parse_der",
-    "rule_text",
     "to_der",
 ]

@@ -102,7 +102,7 @@ def _value(node: Node) -> str:
     try:
         return "" if node.constructed else f" {_text(node)}"
     except DerError as error:
-        return f" ({error.reason}) {_octets(bytes(node.content))}"
+        return f" ({error.text}) {_octets(bytes(node.content))}"
 
 
 def _text(node: Node) -> str:

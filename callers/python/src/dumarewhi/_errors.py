@@ -12,27 +12,27 @@ class DerError(ValueError):
     >>> try:
     ...     dumarewhi.parse_der(b"\\x30\\x03\\x04\\x81\\x00")
     ... except dumarewhi.DerError as error:
-    ...     print(error.offset, error.rule == dumarewhi.Rule.LENGTH_NOT_MINIMAL)
+    ...     print(error.offset, error.reason == dumarewhi.Reason.LENGTH_NOT_MINIMAL)
     2 True
 
     Attributes:
-        reason: What is wrong, as a text.
+        text: What is wrong.
         offset: The offset of the innermost wrong element; for a :class:`Writer` the number of octets written before.
-        rule: The broken rule, one of :class:`Rule`; 0 if it has no number, as for trailing data.
+        reason: One of :class:`Reason`; 0 if it has no number, as for trailing data.
         names: The names of the fields around it, the outermost first, from :class:`named`.
     """
 
-    def __init__(self, reason: str, offset: int, rule: int = 0) -> None:
-        super().__init__(reason, offset, rule)
-        self.reason = reason
+    def __init__(self, text: str, offset: int, reason: int = 0) -> None:
+        super().__init__(text, offset, reason)
+        self.text = text
         self.offset = offset
-        self.rule = rule
+        self.reason = reason
         self.names: Tuple[str, ...] = ()
 
     def __str__(self) -> str:
         if self.names:
-            return f"{'.'.join(self.names)} at {self.offset}: {self.reason}"
-        return f"{self.reason} at offset {self.offset}"
+            return f"{'.'.join(self.names)} at {self.offset}: {self.text}"
+        return f"{self.text} at offset {self.offset}"
 
 
 class Incomplete(DerError):
@@ -60,7 +60,7 @@ class named:
     """Adds the name of a field to errors inside the block.
 
     >>> import dumarewhi
-    >>> with named("request"), dumarewhi.Reader(bytes.fromhex("3003 020105")) as reader, reader.sequence() as fields:
+    >>> with named("request"), dumarewhi.Reader(bytes.fromhex("3003 020105")) as reader, reader.open_sequence() as fields:
     ...     with named("serial"):
     ...         fields.boolean()
     Traceback (most recent call last):

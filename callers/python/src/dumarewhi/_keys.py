@@ -4,10 +4,10 @@ from __future__ import annotations
 from dataclasses import dataclass
 from typing import TYPE_CHECKING, Optional, Type
 
-from . import _certificate_calls as _calls
-from . import _parts
+from . import _header, _parts
 from ._certificate_calls import Octets
-from ._parts import AnyElement
+from ._header import KeyKindFields, PublicKeyFields
+from ._parts import AnyElement, Key
 from ._values import BitString, ObjectIdentifier
 
 if TYPE_CHECKING:
@@ -42,7 +42,7 @@ class PrivateKey:
             CertificateError: The octets aren't a key, or it is encrypted: :class:`EncryptedPrivateKey` reads that.
         """
         octets = bytes(data)
-        found, part = _parts.read(_calls.read_private_key, _calls.PrivateKeyStruct, octets)
+        found, part = _parts.read(_header.read_private_key, _header.PrivateKeyFields, octets)
         return cls(
             version=found.version,
             algorithm=ObjectIdentifier.from_content(part(found.algorithm)),
@@ -81,7 +81,7 @@ class RsaPrivateKey:
             CertificateError: The octets aren't a key.
         """
         octets = bytes(data)
-        found, part = _parts.read(_calls.read_rsa_private_key, _calls.RsaPrivateKeyStruct, octets)
+        found, part = _parts.read(_header.read_rsa_private_key, _header.RsaPrivateKeyFields, octets)
 
         def number(content: Octets) -> int:
             return _parts.number(part(content))
@@ -123,7 +123,7 @@ class EcPrivateKey:
             CertificateError: The octets aren't a key.
         """
         octets = bytes(data)
-        found, part = _parts.read(_calls.read_ec_private_key, _calls.EcPrivateKeyStruct, octets)
+        found, part = _parts.read(_header.read_ec_private_key, _header.EcPrivateKeyFields, octets)
         return cls(
             version=found.version,
             private_key=part(found.private_key),
@@ -153,7 +153,7 @@ class EncryptedPrivateKey:
             CertificateError: The octets aren't an encrypted key.
         """
         octets = bytes(data)
-        found, part = _parts.read(_calls.read_encrypted_private_key, _calls.EncryptedPrivateKeyStruct, octets)
+        found, part = _parts.read(_header.read_encrypted_private_key, _header.EncryptedPrivateKeyFields, octets)
         return cls(
             algorithm=ObjectIdentifier.from_content(part(found.algorithm)),
             parameters=_parts.any_element(found.parameters, part) if found.has_parameters else None,
@@ -162,7 +162,7 @@ class EncryptedPrivateKey:
 
 
 @dataclass(frozen=True)
-class SubjectPublicKeyInfo:
+class SubjectPublicKeyInfo(Key):
     """A public key (RFC 5280 4.1.2.7), such as in a PEM block PUBLIC KEY."""
 
     algorithm: ObjectIdentifier
@@ -180,12 +180,21 @@ class SubjectPublicKeyInfo:
             CertificateError: The octets aren't a key.
         """
         octets = bytes(data)
-        found, part = _parts.read(_calls.read_public_key, _calls.PublicKeyStruct, octets)
+        found, part = _parts.read(_header.read_public_key, _header.PublicKeyFields, octets)
         return cls(
             algorithm=ObjectIdentifier.from_content(part(found.algorithm)),
             parameters=_parts.any_element(found.parameters, part) if found.has_parameters else None,
             public_key=_parts.bits(found.public_key, part),
         )
+
+    def _kind(self) -> KeyKindFields:
+        identifier, octets, parameters = self.algorithm.content, bytes(self.public_key), self.parameters
+        content = parameters.content if parameters else b""
+        tag = (parameters.tag.number, parameters.tag.tag_class, parameters.constructed) if parameters else (0, 0, 0)
+        fields = (*_parts.pointer_to(identifier), *_parts.pointer_to(content), *tag, 0)
+        bits = (*_parts.pointer_to(octets), self.public_key.unused_bits, 1)
+        key = _parts.packed(PublicKeyFields, *fields, *bits, parameters is not None, 0)
+        return _parts.kind_of(_header.public_key_type, key)
 
 
 @dataclass(frozen=True)
@@ -203,5 +212,5 @@ class RsaPublicKey:
             CertificateError: The octets aren't a key.
         """
         octets = bytes(data)
-        found, part = _parts.read(_calls.read_rsa_public_key, _calls.RsaPublicKeyStruct, octets)
+        found, part = _parts.read(_header.read_rsa_public_key, _header.RsaPublicKeyFields, octets)
         return cls(_parts.number(part(found.modulus)), _parts.number(part(found.public_exponent)))

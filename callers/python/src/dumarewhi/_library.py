@@ -1,21 +1,20 @@
-"""The shared library: its structs and calls, as ``dumarewhi.h`` declares them.
-
-Only this module calls the library. Calls neither allocate nor keep a pointer, so arguments need to live only during
-the call.
-"""
+"""The octets of the caller's objects, and the calls that read them."""
 from __future__ import annotations
 
 import ctypes
 from array import array
-from ctypes import c_char_p, c_int8, c_int64, c_size_t, c_uint8, c_uint32, c_uint64, c_void_p
-from pathlib import Path
-from typing import TYPE_CHECKING, Any, Callable, Dict, Literal, NamedTuple, Tuple, Type, Union
+from ctypes import c_char_p, c_void_p
+from typing import TYPE_CHECKING, Any, Dict, Literal, NamedTuple, Union
 
+from . import _header
 from ._errors import DerError, Incomplete
-from ._header import Rule
+from ._header import ERROR, NO_ROOM, OK, OutcomeStruct, Reason
+from ._records import Call, releasing, text_of
 
 if TYPE_CHECKING:
     from _typeshed import ReadableBuffer
+
+    from ._records import Words
 
 Rules = Literal["der", "ber"]
 """The rules that an input is read by: ``"der"`` or ``"ber"``."""
@@ -23,130 +22,8 @@ Rules = Literal["der", "ber"]
 DEFAULT_DEPTH = 50
 """How many elements may be one inside another, unless ``max_depth`` is given."""
 
-# enum dm_status
-OK = 0
-ERROR = 1
-INCOMPLETE = 2
-NO_ROOM = 3
-
-# enum dm_zone
-LOCAL = 0
-UTC = 1
-
 # A short call takes less time than other threads need to take and return the GIL. So they get it for long ones only.
 _LONG = 1 << 14
-
-
-class ElementStruct(ctypes.Structure):
-    """``dm_element``. Elements are kept as words: see :class:`Source`."""
-
-    _fields_ = [
-        ("header", c_size_t),
-        ("content", c_size_t),
-        ("end", c_size_t),
-        ("inside", c_size_t),
-        ("number", c_uint32),
-        ("tag_class", c_uint8),
-        ("constructed", c_uint8),
-        ("definite", c_uint8),
-        ("reserved", c_uint8),
-    ]
-
-
-class OutcomeStruct(ctypes.Structure):
-    """``dm_outcome``."""
-
-    elements: int
-    length: int
-    place: int
-    missing: int
-    status: int
-    error: int
-    _fields_ = [
-        ("elements", c_size_t),
-        ("length", c_size_t),
-        ("place", c_size_t),
-        ("missing", c_size_t),
-        ("status", c_uint32),
-        ("error", c_uint32),
-    ]
-
-
-class TimeStruct(ctypes.Structure):
-    """``dm_time``."""
-
-    year: int
-    nanosecond: int
-    month: int
-    day: int
-    hour: int
-    minute: int
-    second: int
-    zone: int
-    zone_hours: int
-    zone_minutes: int
-    _fields_ = [
-        ("year", c_uint32),
-        ("nanosecond", c_uint32),
-        ("month", c_uint8),
-        ("day", c_uint8),
-        ("hour", c_uint8),
-        ("minute", c_uint8),
-        ("second", c_uint8),
-        ("zone", c_uint8),
-        ("zone_hours", c_int8),
-        ("zone_minutes", c_int8),
-    ]
-
-
-class WriterStruct(ctypes.Structure):
-    """``dm_writer``."""
-
-    octets: int
-    capacity: int
-    count: int
-    innermost: int
-    implicit: int
-    number: int
-    _fields_ = [
-        ("octets", c_void_p),
-        ("capacity", c_size_t),
-        ("count", c_size_t),
-        ("innermost", c_size_t),
-        ("implicit", c_uint32),
-        ("number", c_uint32),
-    ]
-
-
-class MarkStruct(ctypes.Structure):
-    """``dm_mark``."""
-
-    start: int
-    outer: int
-    _fields_ = [("start", c_size_t), ("outer", c_size_t)]
-
-
-STRUCTS: Dict[str, Type[ctypes.Structure]] = {
-    "dm_element": ElementStruct,
-    "dm_outcome": OutcomeStruct,
-    "dm_time": TimeStruct,
-    "dm_writer": WriterStruct,
-    "dm_mark": MarkStruct,
-}
-
-_FILE = str(Path(__file__).with_name("libdumarewhi.so"))
-_holding = ctypes.PyDLL(_FILE)  # calls that hold the GIL
-_releasing = ctypes.CDLL(_FILE)  # calls that release it
-
-
-Call = Callable[..., Any]
-
-
-def _call(name: str, result: Any, *arguments: Any, library: ctypes.CDLL = _holding) -> Call:
-    call = library[name]
-    call.restype = result
-    call.argtypes = arguments
-    return call
 
 
 class _Calls(NamedTuple):
@@ -157,63 +34,30 @@ class _Calls(NamedTuple):
     write_der: Call
 
 
-_BOTH: Tuple[Rules, Rules] = ("der", "ber")
+_SHORT_CALLS = _Calls(
+    {"der": _header.parse_der, "ber": _header.parse_ber},
+    {"der": _header.check_der, "ber": _header.check_ber},
+    _header.write_der,
+)
+_LONG_CALLS = _Calls(
+    {"der": releasing(_header.parse_der), "ber": releasing(_header.parse_ber)},
+    {"der": releasing(_header.check_der), "ber": releasing(_header.check_ber)},
+    releasing(_header.write_der),
+)
 
 
-def _reading_calls(library: ctypes.CDLL) -> _Calls:
-    parse = (c_void_p, c_size_t, c_size_t, c_void_p, c_size_t, c_void_p)
-    check = (c_void_p, c_size_t, c_size_t, c_void_p)
-    write = (c_void_p, c_size_t, c_void_p, c_size_t, c_void_p)
-    return _Calls(
-        {rules: _call("dm_parse_" + rules, c_uint32, *parse, library=library) for rules in _BOTH},
-        {rules: _call("dm_check_" + rules, c_uint32, *check, library=library) for rules in _BOTH},
-        _call("dm_write_der", c_uint32, *write, library=library),
-    )
-
-
-_SHORT_CALLS = _reading_calls(_holding)
-_LONG_CALLS = _reading_calls(_releasing)
-
-_error_text = _call("dm_error_text", c_size_t, c_uint32, c_char_p, c_size_t)
-read_oid = _call("dm_read_oid", c_uint32, c_char_p, c_size_t, c_void_p, c_size_t, c_void_p)
-check_text = _call("dm_check_text", c_uint32, c_uint32, c_char_p, c_size_t)
-read_time = _call("dm_read_time", c_uint32, c_uint32, c_char_p, c_size_t, c_void_p)
-
-open_element = _call("dm_open", MarkStruct, c_void_p, c_uint8, c_uint8, c_uint32)
-close = _call("dm_close", None, c_void_p, MarkStruct)
-implicit = _call("dm_implicit", None, c_void_p, c_uint8, c_uint32)
-put_bool = _call("dm_put_bool", None, c_void_p, c_uint8)
-put_i64 = _call("dm_put_i64", None, c_void_p, c_int64)
-put_enumerated = _call("dm_put_enumerated", None, c_void_p, c_uint64)
-put_octets = _call("dm_put_octets", None, c_void_p, c_char_p, c_size_t)
-put_null = _call("dm_put_null", None, c_void_p)
-put_bits = _call("dm_put_bits", None, c_void_p, c_uint8, c_char_p, c_size_t)
-put_oid = _call("dm_put_oid", None, c_void_p, c_char_p, c_size_t)
-put_elements = _call("dm_put_elements", None, c_void_p, c_char_p, c_size_t)
-put_integer = _call("dm_put_integer", c_uint32, c_void_p, c_char_p, c_size_t)
-put_text = _call("dm_put_text", c_uint32, c_void_p, c_uint32, c_char_p, c_size_t)
-put_time = _call("dm_put_time", c_uint32, c_void_p, c_uint32, c_void_p)
-finish = _call("dm_finish", c_uint32, c_void_p, c_void_p)
-
-
-def rule_text(rule: int) -> str:
+def error_text(reason: int) -> str:
     """The library's text of an error, by its number.
 
-    >>> rule_text(Rule.INVALID_CHARACTER)
+    >>> error_text(Reason.INVALID_CHARACTER)
     'invalid character in string'
     """
-    room = 128
-    while True:
-        text = ctypes.create_string_buffer(room)
-        length: int = _error_text(rule, text, room)
-        if length <= room:
-            return text.raw[:length].decode()
-        room = length
+    return text_of(_header.error_text, reason)
 
 
-def rule_error(rule: int, offset: int) -> DerError:
-    """The error that a rule is broken at an offset."""
-    return DerError(rule_text(rule), offset, rule)
+def error_at(reason: int, offset: int) -> DerError:
+    """An error at an offset."""
+    return DerError(error_text(reason), offset, reason)
 
 
 class _Buffer(ctypes.Structure):
@@ -269,10 +113,6 @@ def _address(view: memoryview) -> int:
     address = buffer.buf
     _release_buffer(ctypes.byref(buffer))
     return address or address_of(_NOTHING)
-
-
-if TYPE_CHECKING:
-    Words = array[int]
 
 
 class Listing(NamedTuple):
@@ -362,9 +202,9 @@ class Source:
     def _error(begin: int, end: int, outcome: OutcomeStruct, nested: bool) -> DerError:
         """The error of an outcome. What is nested can't be completed by more octets."""
         if outcome.status == ERROR:
-            return rule_error(outcome.error, begin + outcome.place)
+            return error_at(outcome.error, begin + outcome.place)
         if nested:
-            return rule_error(Rule.OVERRUN, begin)
+            return error_at(Reason.OVERRUN, begin)
         return Incomplete(outcome.missing, end)
 
 

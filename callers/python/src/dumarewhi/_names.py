@@ -1,21 +1,21 @@
 """Names of subjects and issuers, and general names (RFC 5280 4.1.2.4, 4.2.1.6)."""
 from __future__ import annotations
 
-import enum
 import ipaddress
 from dataclasses import dataclass
 from typing import Iterator, Optional, Tuple, Union
 
 from . import _certificate_calls as _calls
-from . import _library, _parts
-from ._certificate_calls import AttributeStruct, GeneralNameStruct, Octets, OctetsStruct, Steps, Within
-from ._tag import CLASS_SHIFT, Tag, TagClass, tag_of
+from . import _header, _library, _parts
+from ._certificate_calls import Octets, Steps, Within
+from ._header import AttributeFields, Class, GeneralNameFields, GeneralNameKind, OctetsFields
+from ._tag import CLASS_SHIFT, Tag, tag_of
 from ._tree import _CODECS
 from ._values import ObjectIdentifier
 
 # The types whose characters the library looks at. Those of the others are what the codec takes.
 _CHECKED = frozenset(tag.number for tag in (Tag.NUMERIC_STRING, Tag.PRINTABLE_STRING, Tag.VISIBLE_STRING))
-_UNIVERSAL = TagClass.UNIVERSAL
+_UNIVERSAL = Class.UNIVERSAL
 
 
 @dataclass(frozen=True)
@@ -35,7 +35,7 @@ class Attribute:
         codec = _CODECS.get(number) if self.tag.tag_class == _UNIVERSAL else None
         if codec is None or self.constructed:
             return None
-        if number in _CHECKED and _library.check_text(number, value, len(value)):
+        if number in _CHECKED and _header.check_text(number, value, len(value)):
             return None
         try:
             return value.decode(codec)
@@ -45,7 +45,7 @@ class Attribute:
 
 class Name:
     """The name of an issuer or a subject (4.1.2.4). ``str`` is the text of RFC 4514, the last relative name first.
-    Characters outside of ASCII are escaped UTF-8, such as ``\\C3\\A9``.
+    Characters outside of ASCII are escaped UTF-8, such as ``\\c3\\a9``.
 
     Names compare by octets. RFC 5280 7.1 also treats names as equal that differ in case or spaces.
     """
@@ -63,8 +63,8 @@ class Name:
         """Its relative names in order, mostly of one attribute each."""
         octets = self.octets
         begin = _library.address_of(octets)
-        names = Steps(_calls.next_relative_name, OctetsStruct)
-        attributes = Steps(_calls.next_attribute, AttributeStruct)
+        names = Steps(_header.next_relative_name, OctetsFields)
+        attributes = Steps(_header.next_attribute, AttributeFields)
         return tuple([_attributes(attributes, name, octets, begin) for name in names.of((begin, len(octets)))])
 
     @property
@@ -81,7 +81,12 @@ class Name:
         return iter(self.attributes)
 
     def __str__(self) -> str:
-        return _calls.name_text(self.octets)
+        return _calls.name_text(_header.name_text, self.octets)
+
+    @property
+    def utf8(self) -> str:
+        """The same text, but only with control characters, and those that change the direction of a text, escaped."""
+        return _calls.name_text(_header.name_utf8, self.octets)
 
     def __repr__(self) -> str:
         return f"<Name {self}>"
@@ -97,7 +102,7 @@ class Name:
 
 def attributes_of(name: Octets, octets: bytes) -> Tuple[Attribute, ...]:
     """The attributes of a relative name, which is a part of the octets."""
-    return _attributes(Steps(_calls.next_attribute, AttributeStruct), name, octets, _library.address_of(octets))
+    return _attributes(Steps(_header.next_attribute, AttributeFields), name, octets, _library.address_of(octets))
 
 
 def _attributes(steps: Steps, name: Octets, octets: bytes, begin: int) -> Tuple[Attribute, ...]:
@@ -114,24 +119,20 @@ def _attributes(steps: Steps, name: Octets, octets: bytes, begin: int) -> Tuple[
     )
 
 
-class GeneralNameKind(enum.IntEnum):
-    """The kind of a name, by its tag number."""
-
-    OTHER_NAME = 0
-    RFC822_NAME = 1
-    DNS_NAME = 2
-    X400_ADDRESS = 3
-    DIRECTORY_NAME = 4
-    EDI_PARTY_NAME = 5
-    URI = 6
-    IP_ADDRESS = 7
-    REGISTERED_ID = 8
-
-
 Address = Union[ipaddress.IPv4Address, ipaddress.IPv6Address]
 
 _KINDS = tuple(GeneralNameKind)
 _TEXTS = (GeneralNameKind.RFC822_NAME, GeneralNameKind.DNS_NAME, GeneralNameKind.URI)
+
+
+_WORDS = {
+    GeneralNameKind.RFC822_NAME: "email",
+    GeneralNameKind.DNS_NAME: "DNS",
+    GeneralNameKind.DIRECTORY_NAME: "DirName",
+    GeneralNameKind.URI: "URI",
+    GeneralNameKind.IP_ADDRESS: "IP",
+    GeneralNameKind.REGISTERED_ID: "RID",
+}
 
 
 @dataclass(frozen=True)
@@ -144,14 +145,20 @@ class GeneralName:
     identifier: Optional[ObjectIdentifier] = None
     """The type of an otherName."""
 
+    def __str__(self) -> str:
+        """Such as ``DNS:example.org``. Whoever made the certificate chose the text, so characters are escaped."""
+        value = self.value.hex() if isinstance(self.value, bytes) else str(self.value)
+        text = value.encode("unicode_escape").decode() if isinstance(self.value, str) else value
+        return f"{_WORDS.get(self.kind, self.kind.name)}:{text}"
+
 
 def general_names(octets: Octets, part: Within) -> Tuple[GeneralName, ...]:
     """The names of a list, which is a part of an input."""
-    found = _calls.steps(_calls.next_general_name, GeneralNameStruct, octets)
+    found = _calls.steps(_header.next_general_name, GeneralNameFields, octets)
     return tuple(general_name(item, part) for item in found)
 
 
-def general_name(found: GeneralNameStruct, part: Within) -> GeneralName:
+def general_name(found: GeneralNameFields, part: Within) -> GeneralName:
     kind, octets = _KINDS[found.kind], part(found.octets)
     if kind in _TEXTS:
         return GeneralName(kind, octets.decode("ascii"))

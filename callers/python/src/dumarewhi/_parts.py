@@ -3,29 +3,35 @@ from __future__ import annotations
 
 import datetime
 from dataclasses import dataclass
-from typing import Optional, Tuple, Type, Union
+from struct import Struct
+from typing import TYPE_CHECKING, Optional, Tuple, Type, Union
 
 from . import _certificate_calls as _calls
-from . import _library
-from ._certificate_calls import (
-    FAULT_SIZE,
-    AlgorithmStruct,
-    AnyStruct,
-    AttributeStruct,
-    BitsStruct,
-    FaultStruct,
-    MomentStruct,
-    NumberStruct,
-    OctetsStruct,
-    R,
-    TimeFields,
-    Within,
-)
+from . import _header, _library
+from ._certificate_calls import NumberFields, Within
 from ._errors import DerError
-from ._header import Field, Rule
-from ._library import Call
+from ._header import (
+    AlgorithmFields,
+    AnyFields,
+    AttributeFields,
+    BitsFields,
+    CertificateFields,
+    Curve,
+    FaultFields,
+    Field,
+    KeyKindFields,
+    KeyType,
+    MomentFields,
+    OctetsFields,
+    Reason,
+    TimeFields,
+)
+from ._records import Call, R
 from ._tag import CLASS_SHIFT, Tag, tag_of
 from ._values import BitString, ObjectIdentifier
+
+if TYPE_CHECKING:
+    from ._records import Words
 
 
 class CertificateError(DerError):
@@ -44,28 +50,28 @@ class CertificateError(DerError):
     tbsCertificate at 2: unexpected class, found [APPLICATION 10]
 
     Attributes:
-        reason: What is wrong and where, as a text with the field.
+        text: What is wrong and where, with the field.
         field: The first field that is wrong.
         offset: The offset of the wrong element in what was read.
-        rule: The broken rule, one of :class:`Rule`, or 0 if the input is cut short.
+        reason: One of :class:`Reason`, or 0 if the input is cut short.
         incomplete: Whether more octets may complete the input.
         list_end: The end of the element around it, or ``None``.
         needed: Number of octets that the element needs, as far as the input shows, or ``None``.
     """
 
-    def __init__(self, fault: FaultStruct, reason: str) -> None:
-        super().__init__(reason, fault.offset, fault.error)
+    def __init__(self, fault: FaultFields, text: str) -> None:
+        super().__init__(text, fault.offset, fault.error)
         self._fault = fault
         self.field = Field(fault.field)
-        self.incomplete = fault.status == _library.INCOMPLETE
+        self.incomplete = fault.status == _header.INCOMPLETE
         self.list_end = fault.list_end if fault.is_in_list else None
         self.needed = fault.needed or None
 
     def __str__(self) -> str:
-        return f"{'.'.join(self.names)} {self.reason}" if self.names else self.reason
+        return f"{'.'.join(self.names)} {self.text}" if self.names else self.text
 
     def __reduce__(self) -> Tuple[object, ...]:
-        return CertificateError, (self._fault, self.reason), {"names": self.names}
+        return CertificateError, (self._fault, self.text), {"names": self.names}
 
 
 @dataclass(frozen=True)
@@ -77,13 +83,43 @@ class Algorithm:
     """The encoding of its parameters, one element of any type."""
 
 
+class Key:
+    """What a public key is."""
+
+    def _kind(self) -> KeyKindFields:
+        raise NotImplementedError
+
+    @property
+    def key_type(self) -> KeyType:
+        """The type of the key."""
+        return KeyType(self._kind().key_type)
+
+    @property
+    def curve(self) -> Optional[Curve]:
+        """The curve of a key of an elliptic curve, if it is a known one."""
+        number = self._kind().curve
+        return Curve(number) if number else None
+
+    @property
+    def key_size(self) -> Optional[int]:
+        """The size in bits, if it is known: of the modulus of RSA, of the prime of DSA and DH, or of the curve's
+        field."""
+        return self._kind().bits or None
+
+
 @dataclass(frozen=True)
-class PublicKey:
+class PublicKey(Key):
     """A key (4.1.2.7)."""
 
     algorithm: Algorithm
     bits: BitString
     """The key as its algorithm encodes it."""
+
+    def _kind(self) -> KeyKindFields:
+        identifier, parameters, key = self.algorithm.identifier.content, self.algorithm.parameters or b"", self.bits
+        octets = bytes(key)
+        algorithm = packed(AlgorithmFields, *pointer_to(identifier), *pointer_to(parameters))
+        return kind_of(_header.key_type, algorithm, packed(BitsFields, *pointer_to(octets), key.unused_bits, 1))
 
 
 @dataclass(frozen=True)
@@ -96,38 +132,69 @@ class AnyElement:
     """The content octets."""
 
 
-def read(call: Call, record: Type[R], octets: bytes) -> Tuple[R, Within]:
-    """What a call reads of an input, and what takes parts of the input."""
+def _memory_of(call: Call, record: Type[R], octets: bytes) -> Words:
+    """A fault, and what a call reads of an input behind it."""
     memory = record.result[:]
     fault, _ = memory.buffer_info()
-    begin = _library.address_of(octets)
-    if call(begin, len(octets), fault + FAULT_SIZE, fault) != _library.OK:
+    if call(_library.address_of(octets), len(octets), fault + FaultFields.size, fault) != _header.OK:
         raise _error(memory, octets)
-    found = tuple.__new__(record, record.unpack_from(memory, FAULT_SIZE))
-    return found, _calls.within(octets, begin)
+    return memory
 
 
-def _error(memory: _library.Words, octets: bytes) -> CertificateError:
+def read(call: Call, record: Type[R], octets: bytes) -> Tuple[R, Within]:
+    """What a call reads of an input, and what takes parts of the input."""
+    memory = _memory_of(call, record, octets)
+    found = tuple.__new__(record, record.unpack_from(memory, FaultFields.size))
+    return found, _calls.within(octets, _library.address_of(octets))
+
+
+def is_valid_at(certificate: bytes, seconds: int) -> bool:
+    """Whether a certificate is valid at this second since 1970."""
+    memory = _memory_of(_header.read_certificate, CertificateFields, certificate)
+    begin, _ = memory.buffer_info()
+    valid: int = _header.is_valid_at(begin + FaultFields.size, seconds)
+    return valid != 0
+
+
+def pointer_to(data: bytes) -> Tuple[int, int]:
+    """A field of the type dm_octets. The octets have to live during the call."""
+    return _library.address_of(data), len(data)
+
+
+def packed(record: Type[R], *fields: int) -> bytes:
+    """A struct with these fields."""
+    return Struct(record.letters).pack(*fields)
+
+
+def kind_of(call: Call, *structs: bytes) -> KeyKindFields:
+    """What a public key is, whose structs a call takes."""
+    memory = KeyKindFields.result[:]
+    begin, _ = memory.buffer_info()
+    call(*map(_library.address_of, structs), begin)
+    return KeyKindFields.at(memory, 0)
+
+
+def _error(memory: Words, octets: bytes) -> CertificateError:
     """The error of a fault that a call wrote to memory."""
-    fault = FaultStruct.at(memory, 0)
+    fault = FaultFields.at(memory, 0)
     return CertificateError(fault, _calls.found_text(fault, octets))
 
 
 def read_null(call: Call, octets: bytes) -> None:
     """Reads an input that has no value."""
-    memory = FaultStruct.result[:]
-    if call(_library.address_of(octets), len(octets), memory.buffer_info()[0]) != _library.OK:
+    memory = FaultFields.result[:]
+    if call(_library.address_of(octets), len(octets), memory.buffer_info()[0]) != _header.OK:
         raise _error(memory, octets)
 
 
 def read_number(call: Call, octets: bytes) -> int:
     """The number that a call reads of an input."""
-    return read(call, NumberStruct, octets)[0].value
+    return read(call, NumberFields, octets)[0].value
 
 
 def read_part(call: Call, octets: bytes) -> bytes:
     """The part of an input that a call finds."""
-    found, part = read(call, OctetsStruct, octets)
+    found, part = read(call, OctetsFields, octets)
     return part(found)
 
 
@@ -136,24 +203,24 @@ def number(content: bytes) -> int:
     return int.from_bytes(content, "big", signed=True)
 
 
-def algorithm(found: AlgorithmStruct, part: Within) -> Algorithm:
+def algorithm(found: AlgorithmFields, part: Within) -> Algorithm:
     identifier, size, parameters, length = found
     return Algorithm(ObjectIdentifier.from_content(part((identifier, size))), part((parameters, length)) or None)
 
 
-def bits(found: BitsStruct, part: Within) -> BitString:
+def bits(found: BitsFields, part: Within) -> BitString:
     return BitString(part(found.octets), found.unused)
 
 
-def optional_bits(found: BitsStruct, part: Within) -> Optional[BitString]:
+def optional_bits(found: BitsFields, part: Within) -> Optional[BitString]:
     return bits(found, part) if found.is_present else None
 
 
-def tag(found: Union[AnyStruct, AttributeStruct]) -> Tag:
+def tag(found: Union[AnyFields, AttributeFields]) -> Tag:
     return tag_of(found.number | found.tag_class << CLASS_SHIFT)
 
 
-def any_element(found: AnyStruct, part: Within) -> AnyElement:
+def any_element(found: AnyFields, part: Within) -> AnyElement:
     return AnyElement(tag(found), found.constructed != 0, part(found.content))
 
 
@@ -161,7 +228,7 @@ def any_element(found: AnyStruct, part: Within) -> AnyElement:
 Moment = Tuple[int, int, int, int, int, int, int]
 
 
-def moment(found: MomentStruct) -> Moment:
+def moment(found: MomentFields) -> Moment:
     return moment_of(found.time)
 
 
@@ -174,4 +241,4 @@ def datetime_of(moment: Moment) -> datetime.datetime:
     try:
         return datetime.datetime(*moment, tzinfo=datetime.timezone.utc)
     except ValueError:
-        raise _library.rule_error(Rule.INVALID_TIME, 0) from None
+        raise _library.error_at(Reason.INVALID_TIME, 0) from None

@@ -6,9 +6,9 @@ from types import TracebackType
 from typing import TYPE_CHECKING, Callable, Iterator, Optional, Type, TypeVar, Union, overload
 
 from ._errors import DerError, Incomplete
-from ._header import Rule
+from ._header import Class, Reason
 from ._library import DEFAULT_DEPTH, Rules, Source
-from ._tag import AnyTag, Tag, TagClass, key_of, tag_of
+from ._tag import AnyTag, Tag, key_of, tag_of
 from ._tree import Node, Tree, _depth
 from ._values import BitString, ObjectIdentifier
 
@@ -20,11 +20,6 @@ D = TypeVar("D")
 
 _SEQUENCE = key_of(Tag.SEQUENCE)
 _SET = key_of(Tag.SET)
-_INTEGER = key_of(Tag.INTEGER)
-_ENUMERATED = key_of(Tag.ENUMERATED)
-_UTF8_STRING = key_of(Tag.UTF8_STRING)
-_PRINTABLE_STRING = key_of(Tag.PRINTABLE_STRING)
-_IA5_STRING = key_of(Tag.IA5_STRING)
 
 
 class Reader:
@@ -35,8 +30,8 @@ class Reader:
 
     >>> # SEQUENCE { version [0] EXPLICIT INTEGER DEFAULT 0, name UTF8String, critical BOOLEAN DEFAULT FALSE }
     >>> octets = bytes.fromhex("3009 a003 020102 0c026869")
-    >>> with Reader(octets) as reader, reader.sequence() as fields:
-    ...     version = fields.optional_explicit(0, Reader.integer, 0)
+    >>> with Reader(octets) as reader, reader.open_sequence() as fields:
+    ...     version = fields.optional_tagged(0, Reader.integer, 0)
     ...     name = fields.utf8_string()
     ...     critical = fields.optional(Tag.BOOLEAN, Reader.boolean, False)
     >>> version, name, critical
@@ -50,7 +45,7 @@ class Reader:
         max_depth: The largest depth of elements, at most ``MAX_DEPTH``.
     """
 
-    __slots__ = ("_nodes", "_next", "_outer", "_last")
+    __slots__ = ("_nodes", "_next", "_outer", "_last", "_implicit")
 
     _nodes: Iterator[Node]
     # The next element, if it has been looked at.
@@ -59,22 +54,24 @@ class Reader:
     _outer: Optional[Node]
     # The element that was read last.
     _last: Optional[Node]
+    # The implicit tag that the next element has.
+    _implicit: Optional[int]
 
     def __init__(self, data: ReadableBuffer, *, rules: Rules = "der", max_depth: int = DEFAULT_DEPTH) -> None:
         if rules not in ("der", "ber"):
             raise ValueError(f"the rules are 'der' or 'ber', and not {rules!r}")
         source = Source(data)
         self._nodes = _Outermost(source, rules, _depth(max_depth))
-        self._next = self._outer = self._last = None
+        self._next = self._outer = self._last = self._implicit = None
 
     @classmethod
     def _inside(cls, node: Node) -> Reader:
         """A reader of the elements inside an element."""
         if not node.constructed:
-            raise node._error(Rule.CONSTRUCTED_EXPECTED)
+            raise node._error(Reason.CONSTRUCTED_EXPECTED)
         reader = cls.__new__(cls)
         reader._nodes = iter(node.children)
-        reader._next = reader._last = None
+        reader._next = reader._last = reader._implicit = None
         reader._outer = node
         return reader
 
@@ -86,12 +83,12 @@ class Reader:
         return 0 if self._outer is None else self._outer.content_offset
 
     @property
-    def at_end(self) -> bool:
+    def is_empty(self) -> bool:
         """Whether all elements are read.
 
         >>> reader = Reader(bytes.fromhex("020105 020107"))
         >>> numbers = []
-        >>> while not reader.at_end:
+        >>> while not reader.is_empty:
         ...     numbers.append(reader.integer())
         >>> numbers
         [5, 7]
@@ -99,11 +96,11 @@ class Reader:
         if self._next is not None:
             return False
         nodes = self._nodes
-        return nodes.at_end if isinstance(nodes, _Outermost) else self._look() is None
+        return nodes.is_empty if isinstance(nodes, _Outermost) else self._look() is None
 
     def end(self) -> None:
         """Raises an error unless all elements are read."""
-        if not self.at_end:
+        if not self.is_empty:
             raise DerError("octets are left", self.offset)
 
     def __enter__(self) -> Reader:
@@ -122,38 +119,38 @@ class Reader:
 
     # Elements
 
-    def node(self) -> Node:
+    def any(self) -> Node:
         """Reads an element of any type."""
         return self._take(self._must())
 
     def __iter__(self) -> Iterator[Node]:
         """Reads all remaining elements."""
-        while not self.at_end:
-            yield self.node()
+        while not self.is_empty:
+            yield self.any()
 
-    def sequence(self) -> Reader:
+    def open_sequence(self) -> Reader:
         """Reads a SEQUENCE. Returns a reader of its elements."""
         return self._open(_SEQUENCE)
 
-    def set(self) -> Reader:
+    def open_set(self) -> Reader:
         """Reads a SET. Returns a reader of its elements, in their order."""
         return self._open(_SET)
 
-    def tagged(self, tag: AnyTag) -> Reader:
+    def open_tagged(self, tag: AnyTag) -> Reader:
         """Reads a constructed element with this tag. Returns a reader of its elements.
 
         It reads an EXPLICIT tag, or a SEQUENCE or SET under an IMPLICIT one.
 
-        >>> with Reader(bytes.fromhex("6106 020105 020107")).tagged(Tag.application(1)) as fields:
+        >>> with Reader(bytes.fromhex("6106 020105 020107")).open_tagged(Tag.application(1)) as fields:
         ...     fields.integer(), fields.integer()
         (5, 7)
         """
         return self._open(key_of(tag))
 
-    def explicit(self, tag: AnyTag, read: Callable[[Reader], T]) -> T:
+    def tagged(self, tag: AnyTag, read: Callable[[Reader], T]) -> T:
         """Reads the value inside an EXPLICIT tag with ``read``.
 
-        >>> Reader(bytes.fromhex("a003 020105")).explicit(0, Reader.integer)
+        >>> Reader(bytes.fromhex("a003 020105")).tagged(0, Reader.integer)
         5
         """
         node = self._expect(key_of(tag))
@@ -162,20 +159,15 @@ class Reader:
         self._take(node)
         return value
 
-    def implicit(self, tag: AnyTag, universal: Tag) -> Node:
-        """Reads an element with this IMPLICIT tag as one of a universal type, and checks a copy of its content as that
-        type.
+    def implicit(self, tag: AnyTag) -> Reader:
+        """The next element has this IMPLICIT tag instead of its type's. Returns the reader. After an error the tag is
+        still pending.
 
-        >>> # dNSName [2] IMPLICIT IA5String
-        >>> Reader(b"\\x82\\x03a.b").implicit(2, Tag.IA5_STRING).as_str()
+        >>> Reader(b"\\x82\\x03a.b").implicit(2).ia5_string()  # dNSName [2] IMPLICIT IA5String
         'a.b'
         """
-        if universal.tag_class != TagClass.UNIVERSAL or not 1 <= universal.number <= 30:
-            raise ValueError(f"an implicit tag replaces a universal one below 31, and not {universal}")
-        node = self._expect(key_of(tag))
-        value = node._with_tag(key_of(universal))
-        self._take(node)
-        return value
+        self._implicit = key_of(tag)
+        return self
 
     @overload
     def optional(self, tag: AnyTag, read: Callable[[Reader], T]) -> Optional[T]: ...
@@ -194,70 +186,75 @@ class Reader:
         return default if node is None or node._key != key_of(tag) else read(self)
 
     @overload
-    def optional_explicit(self, tag: AnyTag, read: Callable[[Reader], T]) -> Optional[T]: ...
+    def optional_tagged(self, tag: AnyTag, read: Callable[[Reader], T]) -> Optional[T]: ...
 
     @overload
-    def optional_explicit(self, tag: AnyTag, read: Callable[[Reader], T], default: D) -> Union[T, D]: ...
+    def optional_tagged(self, tag: AnyTag, read: Callable[[Reader], T], default: D) -> Union[T, D]: ...
 
-    def optional_explicit(self, tag: AnyTag, read: Callable[[Reader], T], default: object = None) -> object:
-        """Reads as :meth:`explicit` if the next element has this tag, or returns the default."""
-        return self.optional(tag, lambda reader: reader.explicit(tag, read), default)
+    def optional_tagged(self, tag: AnyTag, read: Callable[[Reader], T], default: object = None) -> object:
+        """Reads as :meth:`tagged` if the next element has this tag, or returns the default."""
+        return self.optional(tag, lambda reader: reader.tagged(tag, read), default)
 
     # Values
 
     def boolean(self) -> bool:
         """Reads a BOOLEAN."""
-        return self._value(Node.as_bool)
+        return self._value(Node.as_bool, Tag.BOOLEAN.number)
 
     def integer(self) -> int:
         """Reads an INTEGER, of any size."""
-        return self._value(Node.as_int, _INTEGER)
+        return self._value(Node.as_int, Tag.INTEGER.number)
 
     def enumerated(self) -> int:
         """Reads an ENUMERATED."""
-        return self._value(Node.as_int, _ENUMERATED)
+        return self._value(Node.as_int, Tag.ENUMERATED.number)
 
     def null(self) -> None:
         """Reads a NULL."""
-        self._value(Node.as_null)
+        self._value(Node.as_null, Tag.NULL.number)
 
     def oid(self) -> ObjectIdentifier:
         """Reads an OBJECT IDENTIFIER."""
-        return self._value(Node.as_oid)
+        return self._value(Node.as_oid, Tag.OBJECT_IDENTIFIER.number)
 
-    def octet_string(self) -> bytes:
+    def octets(self) -> bytes:
         """Reads an OCTET STRING."""
-        return self._value(Node.as_bytes)
+        return self._value(Node.as_bytes, Tag.OCTET_STRING.number)
 
-    def bit_string(self) -> BitString:
+    def bits(self) -> BitString:
         """Reads a BIT STRING."""
-        return self._value(Node.as_bit_string)
+        return self._value(Node.as_bit_string, Tag.BIT_STRING.number)
 
     def utf8_string(self) -> str:
         """Reads a UTF8String."""
-        return self._value(Node.as_str, _UTF8_STRING)
+        return self.text(Tag.UTF8_STRING)
 
     def printable_string(self) -> str:
         """Reads a PrintableString."""
-        return self._value(Node.as_str, _PRINTABLE_STRING)
+        return self.text(Tag.PRINTABLE_STRING)
 
     def ia5_string(self) -> str:
         """Reads an IA5String."""
-        return self._value(Node.as_str, _IA5_STRING)
+        return self.text(Tag.IA5_STRING)
 
-    def string(self) -> str:
+    def text(self, tag: Tag) -> str:
+        """Reads a character string of the type with this tag, one of :meth:`Node.as_str`."""
+        return self._value(Node.as_str, key_of(tag))
+
+    def any_text(self) -> str:
         """Reads a character string of any type of :meth:`Node.as_str`."""
-        return self._value(Node.as_str)
+        return self.text(self.peek() or Tag.UTF8_STRING)
 
     def time(self) -> datetime.datetime:
-        """Reads a UTCTime or a GeneralizedTime."""
-        return self._value(Node.as_datetime)
+        """Reads a UTCTime or a GeneralizedTime; under an implicit tag a GeneralizedTime."""
+        tag = Tag.UTC_TIME if self.peek() == Tag.UTC_TIME else Tag.GENERALIZED_TIME
+        return self._value(Node.as_datetime, tag.number)
 
-    def _value(self, read: Callable[[Node], T], key: Optional[int] = None) -> T:
-        """Reads a value. The element has this tag, unless ``read`` looks at it."""
-        node = self._must() if key is None else self._expect(key)
-        value = read(node)
-        self._last, self._next = node, None
+    def _value(self, read: Callable[[Node], T], key: int) -> T:
+        """Reads a value of the type with this tag."""
+        node = self._expect(key)
+        value = read(node if self._implicit is None else node._with_tag(key))
+        self._take(node)
         return value
 
     def _open(self, key: int) -> Reader:
@@ -281,15 +278,16 @@ class Reader:
         raise DerError("an element is missing", self.offset)
 
     def _expect(self, key: int) -> Node:
-        """The next element, which has this tag."""
+        """The next element, which has this tag, or the implicit one in its place."""
         node = self._must()
+        key = key if self._implicit is None else self._implicit
         if node._key != key:
             raise node._unexpected(str(tag_of(key)))
         return node
 
     def _take(self, node: Node) -> Node:
         self._last = node
-        self._next = None
+        self._next = self._implicit = None
         return node
 
 
@@ -305,7 +303,7 @@ class _Outermost:
         self._begin = 0
 
     @property
-    def at_end(self) -> bool:
+    def is_empty(self) -> bool:
         return self._begin == self._source.length
 
     def __iter__(self) -> _Outermost:

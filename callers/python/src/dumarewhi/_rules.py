@@ -6,7 +6,9 @@ from dataclasses import dataclass
 from typing import Tuple
 
 from . import _certificate_calls as _calls
-from ._library import Call, address_of
+from . import _header
+from ._library import address_of
+from ._records import Call
 
 
 @dataclass(frozen=True)
@@ -26,10 +28,10 @@ class BrokenRule:
 
 def broken(call: Call, octets: bytes) -> Tuple[BrokenRule, ...]:
     """The rules that a call finds broken. The octets are those of what was read."""
-    rules = (c_uint32 * _calls.MAX_BROKEN_RULES)()
-    count, fault = c_size_t(), _calls.FaultStruct.result[:]
+    rules = (c_uint32 * _header.MAX_BROKEN_RULES)()
+    count, fault = c_size_t(), _header.FaultFields.result[:]
     call(address_of(octets), len(octets), rules, len(rules), byref(count), fault.buffer_info()[0])
     return tuple(
-        BrokenRule(number, _calls.rule_kind(number) == _calls.RULE_MUST, _calls.rule_text(number))
+        BrokenRule(number, _header.rule_kind(number) == _header.RULE_MUST, _calls.rule_text(number))
         for number in rules[: count.value]
     )

@@ -5,17 +5,17 @@ import ctypes
 import datetime
 from typing import TYPE_CHECKING, Callable, Dict, Iterator, List, Optional, Tuple, Union
 
-from . import _library
+from . import _header, _library
 from ._errors import DerError
-from ._header import MAX_DEPTH, Rule
+from ._header import MAX_DEPTH, Class, Reason
 from ._library import DEFAULT_DEPTH, WORDS, Listing, Rules, Source
-from ._tag import KEY_MASK, NUMBER_MASK, Tag, TagClass, key_of, tag_of
+from ._tag import KEY_MASK, NUMBER_MASK, Tag, key_of, tag_of
 from ._values import BitString, ObjectIdentifier
 
 if TYPE_CHECKING:
     from _typeshed import ReadableBuffer
 
-    from ._library import Words
+    from ._records import Words
     from ._reader import Reader
 
 Value = Union[bool, int, bytes, str, None, datetime.datetime, ObjectIdentifier, BitString, List["Value"]]
@@ -44,7 +44,7 @@ _CODECS: Dict[int, str] = {
     key_of(Tag.IA5_STRING): "ascii",
     key_of(Tag.VISIBLE_STRING): "ascii",
     key_of(Tag.OBJECT_DESCRIPTOR): "utf-8",
-    key_of(Tag.TELETEX_STRING): "utf-8",
+    key_of(Tag.T61_STRING): "utf-8",
     key_of(Tag.VIDEOTEX_STRING): "utf-8",
     key_of(Tag.GRAPHIC_STRING): "utf-8",
     key_of(Tag.GENERAL_STRING): "utf-8",
@@ -205,7 +205,7 @@ class Node:
 
     >>> node = parse_der(bytes.fromhex("a003 020105")).root
     >>> node.tag, node.offset, node.header_length, node.constructed
-    (Tag(tag_class=<TagClass.CONTEXT: 2>, number=0), 0, 2, True)
+    (Tag(tag_class=<Class.CONTEXT_SPECIFIC: 2>, number=0), 0, 2, True)
     >>> node[0].as_int(), node[0].offset
     (5, 2)
 
@@ -234,7 +234,7 @@ class Node:
         return tag_of(self._key)
 
     @property
-    def tag_class(self) -> TagClass:
+    def tag_class(self) -> Class:
         """The class of the tag."""
         return self.tag.tag_class
 
@@ -337,7 +337,7 @@ class Node:
         try:
             listing = copy.list_first(tree._rules, 0, copy.length, tree._max_depth - self.depth, True)
         except DerError as error:
-            raise DerError(error.reason, begin + error.offset, error.rule) from None
+            raise DerError(error.text, begin + error.offset, error.reason) from None
         inner = Tree._of(tree._source, tree._rules, tree._max_depth, begin, self.depth, listing)
         return tree._inner.setdefault(self._at, inner.root.children)
 
@@ -436,7 +436,7 @@ class Node:
         try:
             return BitString(content[1:], content[0])
         except (IndexError, ValueError):
-            raise self._error(Rule.WRONG_VALUE) from None
+            raise self._error(Reason.WRONG_VALUE) from None
 
     def as_null(self) -> None:
         """A NULL (X.690 8.8)."""
@@ -448,7 +448,7 @@ class Node:
         try:
             return _identifier(content)
         except ValueError:
-            raise self._error(Rule.WRONG_VALUE) from None
+            raise self._error(Reason.WRONG_VALUE) from None
 
     def as_str(self) -> str:
         """A character string of any type (X.690 8.23). By BER a constructed one is joined.
@@ -464,7 +464,7 @@ class Node:
         try:
             return content.decode(codec)
         except UnicodeDecodeError:
-            raise self._error(_library.check_text(key, content, len(content)) or Rule.INVALID_CHARACTER) from None
+            raise self._error(_header.check_text(key, content, len(content)) or Reason.INVALID_CHARACTER) from None
 
     def as_datetime(self) -> datetime.datetime:
         """A UTCTime or a GeneralizedTime (X.690 8.25).
@@ -476,14 +476,14 @@ class Node:
         if key != _UTC_TIME:
             key = _GENERALIZED_TIME
         content = bytes(self._string(key))
-        time = _library.TimeStruct()
-        rule = _library.read_time(key, content, len(content), ctypes.byref(time))
+        time = _header.TimeStruct()
+        rule = _header.read_time(key, content, len(content), ctypes.byref(time))
         if rule:
             raise self._error(rule)
         try:
             return _datetime(time)
         except ValueError:  # as of 30 February
-            raise self._error(Rule.INVALID_TIME) from None
+            raise self._error(Reason.INVALID_TIME) from None
 
     def _primitive(self, key: int) -> Union[bytes, memoryview]:
         """The content octets, if it has this tag and is primitive."""
@@ -493,7 +493,7 @@ class Node:
         if word & KEY_MASK != key:
             raise self._unexpected(str(tag_of(key)))
         if word & _CONSTRUCTED:
-            raise self._error(Rule.PRIMITIVE_EXPECTED)
+            raise self._error(Reason.PRIMITIVE_EXPECTED)
         return tree._source.data[tree._begin + words[at + 1] : tree._begin + words[at + 2]]
 
     def _string(self, key: int) -> Union[bytes, memoryview]:
@@ -505,14 +505,14 @@ class Node:
         try:
             return parse_der(to_der(self._copy(key))).root._primitive(key)
         except DerError as error:
-            raise self._error(error.rule) from None
+            raise self._error(error.reason) from None
 
     def _copy(self, key: int) -> bytes:
         """The content behind a header with this universal tag, of a number below 31."""
         tree, at = self._tree, self._at
         words = tree._words
         begin, end = words[at + 1], words[at + 2]
-        header = _header(key | (0x20 if words[at + 4] & _CONSTRUCTED else 0), end - begin)
+        header = _header_octets(key | (0x20 if words[at + 4] & _CONSTRUCTED else 0), end - begin)
         return header + tree._source.data[tree._begin + begin : tree._begin + end]
 
     def _with_tag(self, key: int) -> Node:
@@ -523,16 +523,16 @@ class Node:
             try:
                 _parse(tree._rules, self._copy(key), tree._max_depth - self.depth, False)
             except DerError as error:
-                raise DerError(error.reason, self.offset, error.rule) from None
+                raise DerError(error.text, self.offset, error.reason) from None
         header, content, end, _, word = tree._words[self._at : self._at + WORDS]
         listing = Listing(_library.words_of(header, content, end, 0, word & ~KEY_MASK | key), self.end - self.offset)
         return Tree._of(tree._source, tree._rules, tree._max_depth, tree._begin, self.depth, listing).root
 
     def _error(self, rule: int) -> DerError:
-        return _library.rule_error(rule, self.offset)
+        return _library.error_at(rule, self.offset)
 
     def _unexpected(self, expected: str) -> DerError:
-        return DerError(f"expected {expected}, found {self.tag}", self.offset, Rule.UNEXPECTED_TAG)
+        return DerError(f"expected {expected}, found {self.tag}", self.offset, Reason.UNEXPECTED_TAG)
 
     def __eq__(self, other: object) -> bool:
         if not isinstance(other, Node):
@@ -617,18 +617,18 @@ _READERS: Dict[int, Callable[[Node], Value]] = {
 }
 
 
-def _datetime(time: _library.TimeStruct) -> datetime.datetime:
+def _datetime(time: _header.TimeStruct) -> datetime.datetime:
     zone: Optional[datetime.timezone] = None
-    if time.zone == _library.UTC:
+    if time.zone == _header.UTC:
         zone = datetime.timezone.utc
-    elif time.zone != _library.LOCAL:
+    elif time.zone != _header.LOCAL:
         zone = datetime.timezone(datetime.timedelta(hours=time.zone_hours, minutes=time.zone_minutes))
     return datetime.datetime(
         time.year, time.month, time.day, time.hour, time.minute, time.second, time.nanosecond // 1000, zone
     )
 
 
-def _header(identifier: int, length: int) -> bytes:
+def _header_octets(identifier: int, length: int) -> bytes:
     """One identifier octet, and a length in the fewest octets (X.690 10.1)."""
     if length < 0x80:
         return bytes((identifier, length))

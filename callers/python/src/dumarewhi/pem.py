@@ -11,16 +11,19 @@ import ctypes
 from dataclasses import dataclass, field
 from typing import TYPE_CHECKING, Union
 
-from . import _certificate_calls as _calls
-from ._certificate_calls import LEFT_SIZE, Octets, PemStruct
-from ._library import Source, rule_error
+from . import _header
+from ._certificate_calls import Octets
+from ._errors import DerError
+from ._header import OctetsFields, PemFields
+from ._library import Source, error_at
+from ._tree import check_der
 
 if TYPE_CHECKING:
     from _typeshed import ReadableBuffer
 
-    from ._library import Words
+    from ._records import Words
 
-__all__ = ["Block", "Blocks", "blocks"]
+__all__ = ["Block", "Blocks", "blocks", "decode_input"]
 
 
 @dataclass(frozen=True)
@@ -43,6 +46,25 @@ def blocks(text: Union[str, ReadableBuffer]) -> Blocks:
         text: A text, taken as UTF-8, or any object with octets, which aren't copied.
     """
     return Blocks(text)
+
+
+def decode_input(data: Union[str, ReadableBuffer], label: str) -> bytes:
+    """The octets of the first block with this label, or those of an input that is DER or has no block.
+
+    >>> decode_input("-----BEGIN NULL-----\\nBQA=\\n-----END NULL-----\\n", "NULL")
+    b'\\x05\\x00'
+    """
+    octets = data.encode() if isinstance(data, str) else bytes(data)
+    try:
+        check_der(octets)
+    except DerError:
+        found = None
+        for found in blocks(octets):
+            if found.label == label:
+                return found.octets
+        if found is not None:
+            raise DerError(f"no block has the label {label}", 0) from None
+    return octets
 
 
 class Blocks:
@@ -72,7 +94,7 @@ class Blocks:
     def __init__(self, text: Union[str, ReadableBuffer]) -> None:
         self._source = Source(text.encode() if isinstance(text, str) else text)
         length = self._source.length
-        self._rest = PemStruct.item[:]
+        self._rest = PemFields.item[:]
         self._rest[0], self._rest[1] = self._source._address, length
         self._characters = ctypes.create_string_buffer(length + 1)
         self._octets = ctypes.create_string_buffer(length + 1)
@@ -90,16 +112,16 @@ class Blocks:
         rest, length = self._rest, self._source.length
         address, before = rest[0], rest[1]
         offset = ctypes.c_size_t()
-        if not _calls.find_pem(address, before, ctypes.byref(offset)):
+        if not _header.find_pem(address, before, ctypes.byref(offset)):
             raise StopIteration
         begin = length - before + offset.value
         left, _ = rest.buffer_info()
-        rule = _calls.next_pem(left, self._characters, length, self._octets, length, left + LEFT_SIZE)
+        rule = _header.next_pem(left, self._characters, length, self._octets, length, left + OctetsFields.size)
         if rest[1] == before:
             rest[1] = 0
         if rule:
-            raise rule_error(rule, begin)
-        found = PemStruct.at(rest, LEFT_SIZE)
+            raise error_at(rule, begin)
+        found = PemFields.at(rest, OctetsFields.size)
         return Block(self._text(found.label), begin, ctypes.string_at(self._octets, found.length))
 
     def _text(self, part: Octets) -> str:

@@ -11,33 +11,13 @@ from __future__ import annotations
 
 import datetime
 from dataclasses import dataclass
-from typing import TYPE_CHECKING, Optional, Tuple, Type, Union
+from typing import TYPE_CHECKING, Optional, Tuple, Type
 
 from . import _certificate_calls as _calls
-from . import _extensions, _parts
-from ._extensions import (
-    AccessDescription,
-    AuthorityKeyIdentifier,
-    BasicConstraints,
-    DirectoryAttribute,
-    DistributionPoint,
-    Extension,
-    ExtensionValue,
-    IssuingDistributionPoint,
-    KeyUsage,
-    NameConstraints,
-    OrganizationIdentifier,
-    Policy,
-    PolicyConstraints,
-    PolicyMapping,
-    PolicyQualifier,
-    QcStatement,
-    RevocationReason,
-    Subtree,
-    extensions_of,
-    read_reason,
-)
-from ._header import Field
+from . import _extensions, _header, _parts
+from ._extensions import *
+from ._extensions import Extended, extensions_of
+from ._header import Curve, Field, GeneralNameKind, KeyType, KeyUsage, RevocationReason
 from ._keys import (
     EcPrivateKey,
     EncryptedPrivateKey,
@@ -46,7 +26,7 @@ from ._keys import (
     RsaPublicKey,
     SubjectPublicKeyInfo,
 )
-from ._names import Attribute, GeneralName, GeneralNameKind, Name
+from ._names import Attribute, GeneralName, Name
 from ._parts import Algorithm, AnyElement, CertificateError, Moment, PublicKey
 from ._rules import BrokenRule, broken
 from ._values import BitString, ObjectIdentifier
@@ -55,50 +35,18 @@ if TYPE_CHECKING:
     from _typeshed import ReadableBuffer
 
 __all__ = [
-    "AccessDescription",
-    "Algorithm",
-    "AnyElement",
-    "Attribute",
-    "AuthorityKeyIdentifier",
-    "BasicConstraints",
-    "BrokenRule",
-    "Certificate",
-    "CertificateError",
-    "CertificateList",
-    "CertificationRequest",
-    "DirectoryAttribute",
-    "DistributionPoint",
-    "EcPrivateKey",
-    "EncryptedPrivateKey",
-    "Extension",
-    "ExtensionValue",
-    "Field",
-    "GeneralName",
-    "GeneralNameKind",
-    "IssuingDistributionPoint",
-    "KeyUsage",
-    "Name",
-    "NameConstraints",
-    "OrganizationIdentifier",
-    "Policy",
-    "PolicyConstraints",
-    "PolicyMapping",
-    "PolicyQualifier",
-    "PrivateKey",
-    "PublicKey",
-    "QcStatement",
-    "RequestAttribute",
-    "RevocationReason",
-    "RevokedCertificate",
-    "RsaPrivateKey",
-    "RsaPublicKey",
-    "SubjectPublicKeyInfo",
-    "Subtree",
+    "Algorithm", "AnyElement", "Attribute", "BrokenRule", "Certificate", "CertificateError", "CertificateList",
+    "CertificationRequest", "Curve", "EcPrivateKey", "EncryptedPrivateKey", "Field", "GeneralName", "GeneralNameKind",
+    "KeyType", "KeyUsage", "Name", "PrivateKey", "PublicKey", "RequestAttribute", "RevocationReason", "RevokedCertificate",
+    "RsaPrivateKey", "RsaPublicKey", "SubjectPublicKeyInfo",
 ]
+__all__ += _extensions.__all__
+
+_EPOCH = datetime.datetime(1970, 1, 1, tzinfo=datetime.timezone.utc)
 
 
 @dataclass(frozen=True)
-class Certificate:
+class Certificate(Extended):
     """A certificate (4.1)."""
 
     octets: bytes
@@ -131,14 +79,14 @@ class Certificate:
 
         Args:
             data: Any object with octets. They are copied.
-            strict: Also check rules of RFC 5280's text: those of :class:`Rule` with numbers 128 to 139.
+            strict: Also check rules of RFC 5280's text: those of :class:`Reason` with numbers 128 to 139.
 
         Raises:
             CertificateError: The octets aren't a certificate, or break a rule.
         """
         octets = bytes(data)
-        call = _calls.read_strict_certificate if strict else _calls.read_certificate
-        found, part = _parts.read(call, _calls.CertificateStruct, octets)
+        call = _header.read_strict_certificate if strict else _header.read_certificate
+        found, part = _parts.read(call, _header.CertificateFields, octets)
         return cls(
             octets=octets,
             tbs=part(found.tbs),
@@ -171,29 +119,37 @@ class Certificate:
         """End of validity, inclusive. Errors as for :attr:`not_before`."""
         return _parts.datetime_of(self._validity[1])
 
+    def is_valid_at(self, time: datetime.datetime) -> bool:
+        """Whether it is valid at the second of a time from 1970 on, which has a zone. Both ends are included.
+
+        Raises:
+            ValueError: The time is before 1970.
+        """
+        seconds = (time - _EPOCH) // datetime.timedelta(seconds=1)
+        if seconds < 0:
+            raise ValueError("a time before 1970")
+        return _parts.is_valid_at(self.octets, seconds)
+
+    def is_valid_now(self) -> bool:
+        """Whether it is valid by the system's clock."""
+        return self.is_valid_at(datetime.datetime.now(datetime.timezone.utc))
+
     @property
     def fingerprint(self) -> bytes:
         """The SHA-256 digest (FIPS 180-4) of all octets."""
         return _calls.sha256(self.octets)
 
-    def extension(self, identifier: Union[ObjectIdentifier, str]) -> Optional[Extension]:
-        """The first extension of a type, such as ``"2.5.29.17"``, subjectAltName."""
-        return _extensions.find(self.extensions, identifier)
-
     def broken_rules(self) -> Tuple[BrokenRule, ...]:
         """All rules of RFC 5280's text, and of RFCs beside it, that the certificate breaks: first those with MUST, then
         those with SHOULD. ``strict`` of :meth:`from_der` knows fewer rules."""
-        return broken(_calls.broken_rules, self.octets)
+        return broken(_header.broken_rules, self.octets)
 
     def __repr__(self) -> str:
         return f"<Certificate of {self.subject}, number {self.serial_number:x}>"
 
 
-_REASON_CODE = ObjectIdentifier("2.5.29.21")
-
-
 @dataclass(frozen=True)
-class RevokedCertificate:
+class RevokedCertificate(Extended):
     """A revoked certificate (5.1.2.6)."""
 
     serial_number: int
@@ -216,16 +172,11 @@ class RevokedCertificate:
         Raises:
             CertificateError: The value of the extension isn't a reason. Offsets count from its start.
         """
-        found = self.extension(_REASON_CODE)
-        return None if found is None else read_reason(found.octets)
-
-    def extension(self, identifier: Union[ObjectIdentifier, str]) -> Optional[Extension]:
-        """The first extension of a type, such as ``"2.5.29.24"``, invalidityDate."""
-        return _extensions.find(self.extensions, identifier)
+        return self.get(REASON_CODE)
 
 
 @dataclass(frozen=True)
-class CertificateList:
+class CertificateList(Extended):
     """A CRL (5.1)."""
 
     octets: bytes
@@ -257,7 +208,7 @@ class CertificateList:
             CertificateError: The octets aren't a CRL.
         """
         octets = bytes(data)
-        found, part = _parts.read(_calls.read_certificate_list, _calls.CertificateListStruct, octets)
+        found, part = _parts.read(_header.read_certificate_list, _header.CertificateListFields, octets)
         return cls(
             octets=octets,
             tbs=part(found.tbs),
@@ -283,17 +234,13 @@ class CertificateList:
         """When the next one will be issued at the latest. Errors as for :attr:`Certificate.not_before`."""
         return None if self._next_update is None else _parts.datetime_of(self._next_update)
 
-    def extension(self, identifier: Union[ObjectIdentifier, str]) -> Optional[Extension]:
-        """The first extension of a type, such as ``"2.5.29.20"``, cRLNumber."""
-        return _extensions.find(self.extensions, identifier)
-
     def find(self, serial_number: int) -> Optional[RevokedCertificate]:
         """The entry of the certificate with this serial number, if it is revoked."""
         return next((it for it in self.revoked_certificates or () if it.serial_number == serial_number), None)
 
     def broken_rules(self) -> Tuple[BrokenRule, ...]:
         """All rules of RFC 5280's text that the CRL breaks: first those with MUST, then those with SHOULD."""
-        return broken(_calls.broken_crl_rules, self.octets)
+        return broken(_header.broken_crl_rules, self.octets)
 
     def __repr__(self) -> str:
         return f"<CertificateList of {self.issuer}, {len(self.revoked_certificates or ())} revoked>"
@@ -312,7 +259,7 @@ _EXTENSION_REQUEST = ObjectIdentifier("1.2.840.113549.1.9.14")
 
 
 @dataclass(frozen=True)
-class CertificationRequest:
+class CertificationRequest(Extended):
     """A certification request (RFC 2986 4)."""
 
     octets: bytes
@@ -334,7 +281,7 @@ class CertificationRequest:
             CertificateError: The octets aren't a request.
         """
         octets = bytes(data)
-        found, part = _parts.read(_calls.read_request, _calls.RequestStruct, octets)
+        found, part = _parts.read(_header.read_request, _header.RequestFields, octets)
         return cls(
             octets=octets,
             info=part(found.info),
@@ -354,7 +301,7 @@ class CertificationRequest:
         """
         for attribute in self.attributes:
             if attribute.identifier == _EXTENSION_REQUEST:
-                found, _ = _parts.read(_calls.read_extension_request, _calls.OctetsStruct, attribute.values)
+                found, _ = _parts.read(_header.read_extension_request, _header.OctetsFields, attribute.values)
                 return extensions_of(found, attribute.values)
         return ()
 
@@ -370,12 +317,12 @@ def _revoked(octets: bytes) -> Tuple[RevokedCertificate, ...]:
             _calls.has_unknown_critical(item.extensions),
             _parts.moment(item.date),
         )
-        for item, part in _calls.items(_calls.next_revoked, _calls.RevokedStruct, octets)
+        for item, part in _calls.items(_header.next_revoked, _header.RevokedFields, octets)
     )
 
 
 def _request_attributes(octets: bytes) -> Tuple[RequestAttribute, ...]:
     return tuple(
         RequestAttribute(ObjectIdentifier.from_content(part(item.identifier)), part(item.values))
-        for item, part in _calls.items(_calls.next_request_attribute, _calls.RequestAttributeStruct, octets)
+        for item, part in _calls.items(_header.next_request_attribute, _header.RequestAttributeFields, octets)
     )

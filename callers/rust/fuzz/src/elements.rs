@@ -49,25 +49,25 @@ fn written_again(tree: &Tree<'_>) -> Result<Vec<u8>> {
 
 fn write(w: &mut Writer<'_>, node: Node<'_, '_>) -> Result<()> {
     if node.is_constructed() {
-        return w.tagged(node.tag(), |w| {
+        return w.open_tagged(node.tag(), |w| {
             node.children().try_for_each(|child| write(w, child))
         });
     }
     match node.tag() {
-        Tag::BOOLEAN => w.boolean(node.as_bool()?),
-        Tag::INTEGER => w.integer(node.as_integer()?)?,
+        Tag::BOOLEAN => w.put_bool(node.as_bool()?),
+        Tag::INTEGER => w.put_integer(node.as_integer()?)?,
         Tag::BIT_STRING => {
             let bits = node.as_bit_string()?;
-            w.bit_string(bits.unused_bits(), bits.raw_bytes());
+            w.put_bits(bits.unused_bits(), bits.raw_bytes());
         }
-        Tag::OCTET_STRING => w.octet_string(node.as_bytes()?),
-        Tag::NULL => w.null(),
-        Tag::OBJECT_IDENTIFIER => w.identifier(node.as_oid()?),
-        Tag::UTC_TIME => w.utc_time(node.as_time()?)?,
-        Tag::GENERALIZED_TIME => w.generalized_time(node.as_time()?)?,
+        Tag::OCTET_STRING => w.put_octets(node.as_bytes()?),
+        Tag::NULL => w.put_null(),
+        Tag::OBJECT_IDENTIFIER => w.put_oid(node.as_oid()?),
+        Tag::UTC_TIME => w.put_utc_time(node.as_time()?)?,
+        Tag::GENERALIZED_TIME => w.put_generalized_time(node.as_time()?)?,
         tag => match node.as_str() {
-            Ok(text) => w.string(tag, text)?,
-            Err(_) => w.implicit(tag).octet_string(node.content()),
+            Ok(text) => w.put_text(tag, text)?,
+            Err(_) => w.implicit(tag).put_octets(node.content()),
         },
     }
     Ok(())

@@ -17,7 +17,7 @@ pub fn read(input: &[u8], rules: Rules, sink: &mut Sink) {
     read.ask(sink);
     reader.offset().ask(sink);
     reader.remaining().ask(sink);
-    reader.clone().finish().ask(sink);
+    reader.clone().end().ask(sink);
     sink.debug(&reader);
 }
 
@@ -34,8 +34,8 @@ fn tag_of(octet: u8) -> Tag {
 /// Reads as the calls say, to the end of the list. An error leaves the reader where it was.
 fn fields(r: &mut Reader<'_>, calls: &mut dyn Iterator<Item = u8>, sink: &mut Sink) -> Result<()> {
     while let Some(call) = calls.next() {
-        r.is_finished().ask(sink);
-        r.peek_tag().ask(sink);
+        r.is_empty().ask(sink);
+        r.peek().ask(sink);
         let before = r.offset();
         let read = field(r, call, calls, sink);
         if let Err(error) = read {
@@ -59,8 +59,8 @@ fn field(r: &mut Reader<'_>, call: u8, calls: &mut dyn Iterator<Item = u8>, sink
         3 => r.i64()?.ask(sink),
         4 => r.null()?,
         5 => r.oid()?.ask(sink),
-        6 => r.octet_string()?.ask(sink),
-        7 => r.bit_string()?.ask(sink),
+        6 => r.octets()?.ask(sink),
+        7 => r.bits()?.ask(sink),
         8 => r.utc_time()?.ask(sink),
         9 => r.generalized_time()?.ask(sink),
         10 => r.time()?.ask(sink),
@@ -68,27 +68,27 @@ fn field(r: &mut Reader<'_>, call: u8, calls: &mut dyn Iterator<Item = u8>, sink
         12 => r.utf8_string()?.ask(sink),
         13 => r.printable_string()?.ask(sink),
         14 => r.ia5_string()?.ask(sink),
-        15 => r.string()?.ask(sink),
+        15 => r.any_text()?.ask(sink),
         16 => r.any()?.ask(sink),
         17 => {
             let tag = next();
             r.is_next(tag).ask(sink);
-            r.expect_implicit(tag);
+            r.implicit(tag);
         }
         18 => {
-            let (tag, universal) = (next(), next());
-            r.implicit(tag, universal)?.ask(sink);
+            let tag = next();
+            r.text(tag)?.ask(sink);
         }
         19 => r.value_or(false)?.ask(sink),
         20 => r.value_or(3_u32)?.ask(sink),
         21 => r.value::<Option<Any<'_>>>()?.ask(sink),
         22 => r.value::<Vec<Integer<'_>>>()?.ask(sink),
         23 => r.value::<Vec<Option<bool>>>()?.ask(sink),
-        24 => r.sequence(|r| fields(r, calls, sink))?,
-        25 => r.set(|r| fields(r, calls, sink))?,
+        24 => r.open_sequence(|r| fields(r, calls, sink))?,
+        25 => r.open_set(|r| fields(r, calls, sink))?,
         26 => {
             let tag = next();
-            r.tagged(tag, |r| fields(r, calls, sink))?;
+            r.open_tagged(tag, |r| fields(r, calls, sink))?;
         }
         27 => {
             let tag = next();
@@ -189,14 +189,14 @@ pub fn contents(input: &[u8], sink: &mut Sink) {
     for octet in input.iter().take(2) {
         let tag = tag_of(*octet);
         let _ = dumarewhi::to_vec(|w| {
-            w.set_of(|w| w.implicit(tag).string(Tag::IA5_STRING, &text))?;
-            w.bmp_string(&text)?;
-            w.octet_string_of(|w| w.magnitude(input));
-            w.enumerated(input.len() as u64);
-            w.enumerated_i64(-(input.len() as i64));
-            w.elements(input);
-            w.value_unless(&u32::from(*octet), &7)?;
-            w.oid(&[2, 5, u64::from(*octet)])
+            w.open_set_of(|w| w.implicit(tag).put_text(Tag::IA5_STRING, &text))?;
+            w.put_bmp(&text)?;
+            w.open_octet_string(|w| w.put_magnitude(input));
+            w.put_enumerated(input.len() as u64);
+            w.put_enumerated_i64(-(input.len() as i64));
+            w.put_elements(input);
+            w.put_default(&u32::from(*octet), &7)?;
+            w.put_arcs(&[2, 5, u64::from(*octet)])
         })
         .ask(sink);
     }

@@ -1,21 +1,5 @@
 //! The calls that find blocks of PEM.
-use super::{value_or_error, written, Octets};
-
-structs! {
-    /// A block of a text.
-    struct PemFields<'t> as dm_pem {
-        label: Octets<'t>,
-        length: usize,
-    }
-}
-
-#[rustfmt::skip]
-extern "C" {
-    fn dm_find_pem(i: *const u8, n: usize, offset: *mut usize) -> u32;
-    fn dm_next_pem<'t>(
-        text: *mut Octets<'t>, c: *mut u8, room: usize, o: *mut u8, capacity: usize, to: *mut PemFields<'t>,
-    ) -> u32;
-}
+use super::*;
 
 /// Where the first block of a text begins.
 pub(crate) fn find_pem(text: &[u8]) -> Option<usize> {

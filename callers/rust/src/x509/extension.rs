@@ -5,7 +5,9 @@ use super::{
     RevocationReason, Timestamps, TlsFeatures,
 };
 use crate::ffi::{self, Octets};
+use crate::numbers::{ExtensionKind, GeneralNameKind};
 use crate::{Integer, ObjectIdentifier, Time};
+use core::fmt;
 
 list! {
     /// The extensions of a certificate (RFC 5280 4.1.2.9), a CRL or a CRL entry.
@@ -18,6 +20,27 @@ impl<'a> Extensions<'a> {
         self.iter().find(|extension| extension.identifier() == identifier)
     }
 
+    /// The value of the first extension of a kind.
+    fn first<T>(
+        self,
+        kind: ExtensionKind,
+        read: impl FnOnce(&'a [u8]) -> Result<T, Error>,
+    ) -> Result<Option<T>, Error> {
+        let found = ffi::find_extension(self.0, kind as u32);
+        found.map(|extension| read(extension.value.get())).transpose()
+    }
+
+    /// 4.2.1.6. A repeated extension is an error (4.2).
+    pub fn subject_alt_name(self) -> Result<Option<GeneralNames<'a>>, Error> {
+        let names = GeneralNames(ffi::read_subject_alt_names(self.0)?);
+        Ok(Some(names).filter(|names| !names.is_empty()))
+    }
+
+    /// The DNS names of the subject.
+    pub fn dns_names(self) -> Result<impl Iterator<Item = &'a str>, Error> {
+        Ok(GeneralNames(ffi::read_subject_alt_names(self.0)?).dns_names())
+    }
+
     /// Whether a critical one is [`Value::Other`]. If you know no other extensions, reject the certificate, CRL or
     /// entry (RFC 5280 4.2, 5.2, 5.3).
     pub fn has_unknown_critical(self) -> bool {
@@ -27,13 +50,11 @@ impl<'a> Extensions<'a> {
 
 parts! {
     /// An extension (RFC 5280 4.2).
-    Extension: ExtensionFields as dm_extension;
+    Extension: ExtensionFields;
     /// Its type.
-    identifier: Octets<'a> as ObjectIdentifier<'a>,
-    value: Octets<'a>,
+    identifier as ObjectIdentifier<'a>,
     /// Whether whoever doesn't know it must reject the certificate.
-    critical: u32 => is_critical,
-    kind: u32,
+    critical => is_critical,
 }
 
 impl<'a> Extension<'a> {
@@ -43,21 +64,31 @@ impl<'a> Extension<'a> {
     }
 }
 
-/// Values of extensions: what each is, the number of its kind in `dumarewhi.h`, and what reads it; and those that are a
-/// NULL.
+/// Values of extensions, by the names of their kinds: the call that finds the first one, what each is, and what reads
+/// it; one that has a call of its own; and those that are a NULL.
 macro_rules! values {
     (
-        $($(#[$doc:meta])* $name:ident($type:ty) = $kind:literal by $read:expr;)*
-        @null $($(#[$null_doc:meta])* $null:ident = $null_kind:literal;)*
+        $($(#[$doc:meta])* $name:ident $find:ident -> $type:ty = $read:expr;)*
+        @one $(#[$one_doc:meta])* $one:ident -> $one_type:ty = $one_read:expr;
+        @null $($(#[$null_doc:meta])* $null:ident;)*
     ) => {
+        /// The value of the first extension of a kind, if there is one. Offsets of errors count from the start of its
+        /// [`octets`](Extension::octets).
+        impl<'a> Extensions<'a> {
+            $($(#[$doc])* pub fn $find(self) -> Result<Option<$type>, Error> {
+                self.first(ExtensionKind::$name, |octets| $read(octets).map(Into::into))
+            })*
+        }
+
         impl<'a> Extension<'a> {
             /// Its value, in DER. Offsets of errors count from the start of [`octets`](Extension::octets).
             pub fn value(&self) -> Result<Value<'a>, Error> {
                 let octets = self.octets();
-                match self.0.kind {
-                    $($kind => $read(octets).map(|value| Value::$name(value.into())),)*
-                    $($null_kind => ffi::read_null_extension(octets).map(|()| Value::$null),)*
-                    _ => Ok(Value::Other(octets)),
+                match ExtensionKind::from_number(self.0.kind) {
+                    $(ExtensionKind::$name => $read(octets).map(|value| Value::$name(value.into())),)*
+                    ExtensionKind::$one => $one_read(octets).map(Value::$one),
+                    $(ExtensionKind::$null => ffi::read_null_extension(octets).map(|()| Value::$null),)*
+                    ExtensionKind::ExtensionOther => Ok(Value::Other(octets)),
                 }
             }
         }
@@ -67,79 +98,77 @@ macro_rules! values {
         #[non_exhaustive]
         pub enum Value<'a> {
             $($(#[$doc])* $name($type),)*
+            $(#[$one_doc])* $one($one_type),
             $($(#[$null_doc])* $null,)*
             /// Another extension. Its octets aren't read.
             Other(&'a [u8]),
         }
-
-        #[cfg(test)]
-        pub(crate) const KINDS: &[(&str, u32)] =
-            &[$((stringify!($name), $kind),)* $((stringify!($null), $null_kind),)*];
     };
 }
 
 values! {
     /// 4.2.1.1
-    AuthorityKeyIdentifier(AuthorityKeyIdentifier<'a>) = 35 by AuthorityKeyIdentifier::from_der;
+    AuthorityKeyIdentifier authority_key_identifier -> AuthorityKeyIdentifier<'a> = AuthorityKeyIdentifier::from_der;
     /// 4.2.1.2: its octets.
-    SubjectKeyIdentifier(&'a [u8]) = 14 by ffi::read_subject_key_identifier;
+    SubjectKeyIdentifier subject_key_identifier -> &'a [u8] = ffi::read_subject_key_identifier;
     /// 4.2.1.3
-    KeyUsage(KeyUsage) = 15 by KeyUsage::from_der;
+    KeyUsage key_usage -> KeyUsage = KeyUsage::from_der;
     /// 4.2.1.4
-    CertificatePolicies(Policies<'a>) = 32 by Policies::from_der;
-    /// 4.2.1.6
-    SubjectAltName(GeneralNames<'a>) = 17 by GeneralNames::from_der;
+    CertificatePolicies certificate_policies -> Policies<'a> = Policies::from_der;
     /// 4.2.1.7
-    IssuerAltName(GeneralNames<'a>) = 18 by GeneralNames::from_der;
+    IssuerAltName issuer_alt_name -> GeneralNames<'a> = GeneralNames::from_der;
     /// 4.2.1.9
-    BasicConstraints(BasicConstraints) = 19 by BasicConstraints::from_der;
+    BasicConstraints basic_constraints -> BasicConstraints = BasicConstraints::from_der;
     /// 4.2.1.10
-    NameConstraints(NameConstraints<'a>) = 30 by NameConstraints::from_der;
+    NameConstraints name_constraints -> NameConstraints<'a> = NameConstraints::from_der;
     /// 4.2.1.12
-    ExtendedKeyUsage(KeyPurposes<'a>) = 37 by KeyPurposes::from_der;
+    ExtendedKeyUsage extended_key_usage -> KeyPurposes<'a> = KeyPurposes::from_der;
     /// 4.2.1.13
-    CrlDistributionPoints(DistributionPoints<'a>) = 31 by DistributionPoints::from_der;
+    CrlDistributionPoints crl_distribution_points -> DistributionPoints<'a> = DistributionPoints::from_der;
     /// 4.2.1.15
-    FreshestCrl(DistributionPoints<'a>) = 46 by DistributionPoints::from_der;
+    FreshestCrl freshest_crl -> DistributionPoints<'a> = DistributionPoints::from_der;
     /// 4.2.2.1
-    AuthorityInfoAccess(AccessDescriptions<'a>) = 1 by AccessDescriptions::from_der;
+    AuthorityInfoAccess authority_info_access -> AccessDescriptions<'a> = AccessDescriptions::from_der;
     /// 4.2.2.2
-    SubjectInfoAccess(AccessDescriptions<'a>) = 11 by AccessDescriptions::from_der;
+    SubjectInfoAccess subject_info_access -> AccessDescriptions<'a> = AccessDescriptions::from_der;
     /// 4.2.1.5
-    PolicyMappings(PolicyMappings<'a>) = 33 by PolicyMappings::from_der;
+    PolicyMappings policy_mappings -> PolicyMappings<'a> = PolicyMappings::from_der;
     /// 4.2.1.8
-    SubjectDirectoryAttributes(DirectoryAttributes<'a>) = 9 by DirectoryAttributes::from_der;
+    SubjectDirectoryAttributes subject_directory_attributes -> DirectoryAttributes<'a> = DirectoryAttributes::from_der;
     /// 4.2.1.11
-    PolicyConstraints(PolicyConstraints) = 36 by PolicyConstraints::from_der;
+    PolicyConstraints policy_constraints -> PolicyConstraints = PolicyConstraints::from_der;
     /// 4.2.1.14: how many certificates may follow in a path before anyPolicy no longer counts.
-    InhibitAnyPolicy(u32) = 54 by ffi::read_inhibit_any_policy;
+    InhibitAnyPolicy inhibit_any_policy -> u32 = ffi::read_inhibit_any_policy;
     /// 5.2.3: the number of a CRL, which isn't negative.
-    CrlNumber(Integer<'a>) = 20 by ffi::read_crl_number;
+    CrlNumber crl_number -> Integer<'a> = ffi::read_crl_number;
     /// 5.2.4: the number of the CRL that this one changes.
-    DeltaCrlIndicator(Integer<'a>) = 27 by ffi::read_crl_number;
+    DeltaCrlIndicator delta_crl_indicator -> Integer<'a> = ffi::read_crl_number;
     /// 5.2.5
-    IssuingDistributionPoint(IssuingDistributionPoint<'a>) = 28 by IssuingDistributionPoint::from_der;
+    IssuingDistributionPoint issuing_distribution_point -> IssuingDistributionPoint<'a> = IssuingDistributionPoint::from_der;
     /// 5.3.1, of a CRL entry.
-    ReasonCode(RevocationReason) = 21 by RevocationReason::from_der;
+    ReasonCode reason_code -> RevocationReason = RevocationReason::from_der;
     /// 5.3.2, of a CRL entry: when the key became invalid.
-    InvalidityDate(Time) = 24 by ffi::read_invalidity_date;
+    InvalidityDate invalidity_date -> Time = ffi::read_invalidity_date;
     /// 5.3.3, of a CRL entry: the issuer of the certificates from it on.
-    CertificateIssuer(GeneralNames<'a>) = 29 by GeneralNames::from_der;
+    CertificateIssuer certificate_issuer -> GeneralNames<'a> = GeneralNames::from_der;
     /// RFC 6962 3.3
-    SignedCertificateTimestamps(Timestamps<'a>) = 258 by Timestamps::from_der;
+    SignedCertificateTimestamps signed_certificate_timestamps -> Timestamps<'a> = Timestamps::from_der;
     /// RFC 7633
-    TlsFeatures(TlsFeatures<'a>) = 256 by TlsFeatures::from_der;
+    TlsFeatures tls_features -> TlsFeatures<'a> = TlsFeatures::from_der;
     /// RFC 3739 3.2.6
-    QcStatements(QcStatements<'a>) = 3 by QcStatements::from_der;
+    QcStatements qc_statements -> QcStatements<'a> = QcStatements::from_der;
     /// CA/B Forum, EV Guidelines 9.8.2
-    OrganizationIdentifier(OrganizationIdentifier<'a>) = 260 by OrganizationIdentifier::from_der;
+    OrganizationIdentifier organization_identifier -> OrganizationIdentifier<'a> = OrganizationIdentifier::from_der;
+    @one
+    /// 4.2.1.6
+    SubjectAltName -> GeneralNames<'a> = GeneralNames::from_der;
     @null
     /// RFC 6962 3.1: reject it as a certificate.
-    PrecertificatePoison = 259;
+    PrecertificatePoison;
     /// RFC 6960 4.2.2.2.1: don't ask for its status.
-    OcspNoCheck = 257;
+    OcspNoCheck;
     /// RFC 9608 2: there is no information about revocation.
-    NoRevAvail = 56;
+    NoRevAvail;
 }
 
 /// BasicConstraints (RFC 5280 4.2.1.9).
@@ -174,23 +203,6 @@ impl BasicConstraints {
 #[derive(Clone, Copy, Debug, PartialEq, Eq, Hash)]
 pub struct KeyUsage(u32);
 
-macro_rules! usages {
-    ($($call:ident = $bit:literal, $name:literal;)*) => {
-        impl KeyUsage {
-            $(#[doc = concat!("Whether it has ", $name, ", bit ", $bit, ".")]
-            pub fn $call(self) -> bool {
-                self.has($bit)
-            })*
-
-            /// The names of its bits, as in RFC 5280.
-            pub fn names(self) -> impl Iterator<Item = &'static str> {
-                let names = [$(($bit, $name)),*];
-                names.into_iter().filter(move |(bit, _)| self.has(*bit)).map(|(_, name)| name)
-            }
-        }
-    };
-}
-
 impl KeyUsage {
     /// Reads the value of an extension.
     ///
@@ -210,22 +222,6 @@ impl KeyUsage {
     pub fn bits(self) -> u32 {
         self.0
     }
-
-    fn has(self, bit: u32) -> bool {
-        self.0.wrapping_shr(bit) & 1 != 0
-    }
-}
-
-usages! {
-    digital_signature = 0, "digitalSignature";
-    content_commitment = 1, "contentCommitment";
-    key_encipherment = 2, "keyEncipherment";
-    data_encipherment = 3, "dataEncipherment";
-    key_agreement = 4, "keyAgreement";
-    key_cert_sign = 5, "keyCertSign";
-    crl_sign = 6, "cRLSign";
-    encipher_only = 7, "encipherOnly";
-    decipher_only = 8, "decipherOnly";
 }
 
 list! {
@@ -270,6 +266,14 @@ list! {
     GeneralNames, GeneralNamesIter of GeneralName<'a> => next_general_name, read_general_names
 }
 
+impl<'a> GeneralNames<'a> {
+    /// The DNS names.
+    pub fn dns_names(self) -> impl Iterator<Item = &'a str> {
+        let mut left = self.0;
+        core::iter::from_fn(move || ffi::next_dns_name(&mut left).map(Into::into))
+    }
+}
+
 /// A GeneralName (RFC 5280 4.2.1.6).
 #[derive(Clone, Copy, Debug, PartialEq, Eq, Hash)]
 #[non_exhaustive]
@@ -302,19 +306,19 @@ pub enum GeneralName<'a> {
 impl<'a> From<ffi::GeneralNameFields<'a>> for GeneralName<'a> {
     fn from(fields: ffi::GeneralNameFields<'a>) -> GeneralName<'a> {
         let octets = fields.octets.get();
-        match fields.kind {
-            1 => GeneralName::Rfc822Name(fields.octets.into()),
-            2 => GeneralName::DnsName(fields.octets.into()),
-            3 => GeneralName::X400Address(octets),
-            4 => GeneralName::DirectoryName(fields.octets.into()),
-            5 => GeneralName::EdiPartyName(octets),
-            6 => GeneralName::Uri(fields.octets.into()),
-            7 => GeneralName::IpAddress(octets),
-            8 => GeneralName::RegisteredId(fields.octets.into()),
-            _ => GeneralName::OtherName {
+        match GeneralNameKind::from_number(fields.kind) {
+            GeneralNameKind::OtherName => GeneralName::OtherName {
                 identifier: fields.identifier.into(),
                 value: octets,
             },
+            GeneralNameKind::Rfc822Name => GeneralName::Rfc822Name(fields.octets.into()),
+            GeneralNameKind::DnsName => GeneralName::DnsName(fields.octets.into()),
+            GeneralNameKind::X400Address => GeneralName::X400Address(octets),
+            GeneralNameKind::DirectoryName => GeneralName::DirectoryName(fields.octets.into()),
+            GeneralNameKind::EdiPartyName => GeneralName::EdiPartyName(octets),
+            GeneralNameKind::Uri => GeneralName::Uri(fields.octets.into()),
+            GeneralNameKind::IpAddress => GeneralName::IpAddress(octets),
+            GeneralNameKind::RegisteredId => GeneralName::RegisteredId(fields.octets.into()),
         }
     }
 }
@@ -329,6 +333,24 @@ impl GeneralName<'_> {
                 .or_else(|_| <[u8; 16]>::try_from(*octets).map(std::net::IpAddr::from))
                 .ok(),
             _ => None,
+        }
+    }
+}
+
+/// Such as `DNS:example.org`. Whoever made the certificate chose the text, so it is escaped.
+impl fmt::Display for GeneralName<'_> {
+    fn fmt(&self, f: &mut fmt::Formatter<'_>) -> fmt::Result {
+        #[cfg(feature = "std")]
+        if let Some(address) = self.ip_addr() {
+            return write!(f, "IP:{address}");
+        }
+        match self {
+            GeneralName::DnsName(text) => write!(f, "DNS:{}", text.escape_default()),
+            GeneralName::Rfc822Name(text) => write!(f, "email:{}", text.escape_default()),
+            GeneralName::Uri(text) => write!(f, "URI:{}", text.escape_default()),
+            GeneralName::DirectoryName(name) => write!(f, "DirName:{name}"),
+            GeneralName::RegisteredId(identifier) => write!(f, "RID:{identifier}"),
+            other => write!(f, "{other:?}"),
         }
     }
 }

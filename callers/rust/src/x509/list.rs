@@ -1,31 +1,28 @@
 //! CRLs.
-use super::{rule, Algorithm, AlgorithmFields, BrokenRule, Extensions, Name};
-use crate::ffi::{BitsFields, MomentFields, Octets};
+use super::{rule, Algorithm, BrokenRule, Extensions, Name};
 use crate::{BitString, Integer, Time};
 
 parts! {
     /// A CRL (RFC 5280 5.1).
-    CertificateList: CertificateListFields as dm_certificate_list by read_certificate_list;
+    CertificateList: CertificateListFields by read_certificate_list;
     /// The encoding of tbsCertList: the octets that are signed.
-    tbs: Octets<'a> as &'a [u8],
+    tbs as &'a [u8],
     /// The algorithm of the signature, from the signed part.
-    signature: AlgorithmFields<'a> as Algorithm<'a>,
+    signature as Algorithm<'a>,
     /// Who signed it.
-    issuer: Octets<'a> as Name<'a>,
-    revoked: Octets<'a>,
+    issuer as Name<'a>,
     /// The extensions, if any.
-    extensions: Octets<'a> as Extensions<'a>,
+    extensions as Extensions<'a>,
     /// The algorithm of the signature.
-    signature_algorithm: AlgorithmFields<'a> as Algorithm<'a>,
+    signature_algorithm as Algorithm<'a>,
     /// The signature. It isn't verified.
-    signature_value: BitsFields<'a> as BitString<'a>,
+    signature_value as BitString<'a>,
     /// When it was issued.
-    this_update: MomentFields as Time,
+    this_update as Time,
     /// When the next one will be issued at the latest.
-    next_update: MomentFields as Option<Time>,
+    next_update as Option<Time>,
     /// The version, 1 or 2.
-    version: u32 as u32,
-    has_revoked: u32,
+    version as u32,
 }
 
 impl<'a> CertificateList<'a> {
@@ -53,12 +50,11 @@ list! {
 
 parts! {
     /// A revoked certificate (RFC 5280 5.1.2.6).
-    RevokedCertificate: RevokedFields as dm_revoked;
+    RevokedCertificate: RevokedFields;
     /// Its serial number.
-    serial_number: Octets<'a> as Integer<'a>,
+    serial_number as Integer<'a>,
     /// The extensions of the entry (5.3), such as its reason.
-    extensions: Octets<'a> as Extensions<'a>,
+    extensions as Extensions<'a>,
     /// When it was revoked.
-    date: MomentFields as Time,
-    reserved: u32,
+    date as Time,
 }

@@ -7,7 +7,7 @@ use core::iter::FusedIterator;
 
 list! {
     /// The name of an issuer or a subject (RFC 5280 4.1.2.4). Its items are relative names in order, mostly of one
-    /// attribute each. It displays by RFC 4514, the last relative name first; the texts are tested, not proved.
+    /// attribute each. It displays by RFC 4514, the last relative name first.
     ///
     /// Names compare by octets. RFC 5280 7.1 also treats names as equal that differ in case or spaces.
     Name, RelativeNames of RelativeName<'a> => next_relative_name
@@ -27,6 +27,17 @@ impl<'a> Name<'a> {
         }
     }
 
+    /// It displays as the name does, but in UTF-8. Only control characters, and those that change the direction of a
+    /// text, are escaped.
+    pub fn utf8(self) -> impl fmt::Display + 'a {
+        Utf8(self)
+    }
+
+    fn show(self, utf8: bool, f: &mut fmt::Formatter<'_>) -> fmt::Result {
+        let write = |text: &mut [u8]| Some(ffi::name_text(utf8, self.as_bytes(), text));
+        with_text::<SHORT_TEXT, _>(write, |text| f.pad(text)).unwrap_or(Err(fmt::Error))
+    }
+
     /// The first attribute of a type, such as `oid!(2, 5, 4, 3)`, commonName.
     pub fn find(self, identifier: ObjectIdentifier<'_>) -> Option<Attribute<'a>> {
         self.attributes()
@@ -38,11 +49,19 @@ impl<'a> Name<'a> {
 const SHORT_TEXT: usize = 512;
 
 /// By RFC 4514, such as `CN=example.org,O=Example\, Inc.`. Characters outside of ASCII are escaped UTF-8, such as
-/// `\C3\A9`. Without the feature `alloc`, a text of more than 512 octets is an error.
+/// `\c3\a9`. Without the feature `alloc`, a text of more than 512 octets is an error.
 impl fmt::Display for Name<'_> {
     fn fmt(&self, f: &mut fmt::Formatter<'_>) -> fmt::Result {
-        let write = |text: &mut [u8]| Some(ffi::name_text(self.as_bytes(), text));
-        with_text::<SHORT_TEXT, _>(write, |text| f.pad(text)).unwrap_or(Err(fmt::Error))
+        self.show(false, f)
+    }
+}
+
+/// A name that displays in UTF-8.
+struct Utf8<'a>(Name<'a>);
+
+impl fmt::Display for Utf8<'_> {
+    fn fmt(&self, f: &mut fmt::Formatter<'_>) -> fmt::Result {
+        self.0.show(true, f)
     }
 }
 
@@ -99,15 +118,11 @@ impl FusedIterator for Attributes<'_> {}
 
 parts! {
     /// An attribute of a name: a type and a value.
-    Attribute: AttributeFields as dm_attribute;
+    Attribute: AttributeFields;
     /// The type.
-    identifier: Octets<'a> as ObjectIdentifier<'a>,
+    identifier as ObjectIdentifier<'a>,
     /// The content octets of the value.
-    value: Octets<'a> as &'a [u8],
-    number: u32,
-    tag_class: u8,
-    constructed: u8,
-    reserved: u16,
+    value as &'a [u8],
 }
 
 impl<'a> Attribute<'a> {

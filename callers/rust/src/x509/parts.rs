@@ -1,21 +1,13 @@
 //! What types of certificates have in common: they are structs of the library, or lists of its items.
 
-/// A struct of the library, with its name in `dumarewhi.h`, and a call for each part that has a type behind `as`. A
-/// part that may be absent has the name of the field `where` that is said. A number that is 0 or 1 has the name of its
-/// call behind `=>`. A struct that is read `by` a call has all octets of the input too. What is secret isn't shown:
-/// then one part is.
+/// A type over a struct of the library, and a call for each part. A part that may be absent has the name of the field
+/// `where` that is said. A number that is 0 or 1 has the name of its call behind `=>`. A struct that is read `by` a call
+/// has all octets of the input too. What is secret isn't shown: then one part is.
 macro_rules! parts {
     (
-        $(#[$meta:meta])* $name:ident: $fields:ident as $of_c:ident
-        $(by $kept:ident)? $(from $read:ident)? $(showing $shown:ident)?;
-        $($(#[$doc:meta])* $part:ident: $raw:ty $(as $type:ty $(where $has:ident)?)? $(=> $flag:ident)?,)*
+        $(#[$meta:meta])* $name:ident: $fields:ident $(by $kept:ident)? $(from $read:ident)? $(showing $shown:ident)?;
+        $($(#[$doc:meta])* $part:ident $(as $type:ty $(where $has:ident)?)? $(=> $flag:ident)?,)*
     ) => {
-        structs! {
-            struct $fields<'a> as $of_c {
-                $($part: $raw,)*
-            }
-        }
-
         parts! { @type [$(#[$meta])*] $name $fields $($kept)? }
         $(parts! { @from $name $read })?
         parts! { @calls $name {} $([[$(#[$doc])*] $part $($type $(where $has)?)? $(=> $flag)?])* }
@@ -36,9 +28,6 @@ macro_rules! parts {
         impl<'a> $name<'a> {
             $($calls)*
         }
-    };
-    (@calls $name:ident {$($calls:tt)*} [[$($doc:tt)*] $part:ident] $($rest:tt)*) => {
-        parts! { @calls $name {$($calls)*} $($rest)* }
     };
     (@calls $name:ident {$($calls:tt)*} [[$($doc:tt)*] $part:ident => $flag:ident] $($rest:tt)*) => {
         parts! { @calls $name {
@@ -76,10 +65,10 @@ macro_rules! parts {
     (@type [$($meta:tt)*] $name:ident $fields:ident) => {
         $($meta)*
         #[derive(Clone, Copy, PartialEq, Eq, Hash)]
-        pub struct $name<'a>($fields<'a>);
+        pub struct $name<'a>(crate::ffi::$fields<'a>);
 
-        impl<'a> From<$fields<'a>> for $name<'a> {
-            fn from(fields: $fields<'a>) -> $name<'a> {
+        impl<'a> From<crate::ffi::$fields<'a>> for $name<'a> {
+            fn from(fields: crate::ffi::$fields<'a>) -> $name<'a> {
                 $name(fields)
             }
         }
@@ -91,11 +80,13 @@ macro_rules! parts {
                 crate::ffi::$read(octets).map($name)
             }
         }
+
+        forward!(TryFrom by from_der for $name, crate::Error);
     };
     (@type [$($meta:tt)*] $name:ident $fields:ident $read:ident) => {
         $($meta)*
         #[derive(Clone, Copy, PartialEq, Eq, Hash)]
-        pub struct $name<'a>($fields<'a>, &'a [u8]);
+        pub struct $name<'a>(crate::ffi::$fields<'a>, &'a [u8]);
 
         impl<'a> $name<'a> {
             /// Reads it in DER, by its ASN.1, without trailing data.
@@ -111,6 +102,30 @@ macro_rules! parts {
 
         forward!(TryFrom by from_der for $name, crate::Error);
         forward!(AsRef by as_bytes for $name<'_>);
+    };
+}
+
+/// What a key is: its type, its curve and its size.
+macro_rules! key_kind {
+    ($name:ident) => {
+        impl $name<'_> {
+            /// The type of the key.
+            pub fn key_type(&self) -> crate::x509::KeyType {
+                crate::x509::KeyType::from_number(self.kind().key_type)
+            }
+
+            /// The curve of a key of an elliptic curve, if it is a known one.
+            pub fn curve(&self) -> Option<crate::x509::Curve> {
+                let curve = self.kind().curve;
+                (curve != 0).then(|| crate::x509::Curve::from_number(curve))
+            }
+
+            /// The size in bits, if it is known: of the modulus of RSA, of the prime of DSA and DH, or of the curve's
+            /// field.
+            pub fn key_size(&self) -> Option<u32> {
+                Some(self.kind().bits).filter(|bits| *bits != 0)
+            }
+        }
     };
 }
 

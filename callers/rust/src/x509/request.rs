@@ -1,6 +1,6 @@
 //! Certification requests.
-use super::{Algorithm, AlgorithmFields, Error, Extensions, Name, PublicKey};
-use crate::ffi::{self, BitsFields, Octets};
+use super::{Algorithm, Error, Extensions, Name, PublicKey};
+use crate::ffi::{self, Octets};
 use crate::{oid, BitString, ObjectIdentifier};
 
 /// The attribute extensionRequest (RFC 2985 5.4.2).
@@ -8,19 +8,17 @@ const EXTENSION_REQUEST: ObjectIdentifier<'static> = oid!(1, 2, 840, 113549, 1, 
 
 parts! {
     /// A certification request (RFC 2986 4).
-    CertificationRequest: RequestFields as dm_request by read_request;
+    CertificationRequest: RequestFields by read_request;
     /// The encoding of certificationRequestInfo: the octets that are signed.
-    info: Octets<'a> as &'a [u8],
+    info as &'a [u8],
     /// The subject.
-    subject: Octets<'a> as Name<'a>,
-    key_algorithm: AlgorithmFields<'a>,
-    key: BitsFields<'a>,
+    subject as Name<'a>,
     /// The attributes, in order.
-    attributes: Octets<'a> as RequestAttributes<'a>,
+    attributes as RequestAttributes<'a>,
     /// The algorithm of the signature.
-    signature_algorithm: AlgorithmFields<'a> as Algorithm<'a>,
+    signature_algorithm as Algorithm<'a>,
     /// The signature. It isn't verified.
-    signature: BitsFields<'a> as BitString<'a>,
+    signature as BitString<'a>,
 }
 
 impl<'a> CertificationRequest<'a> {
@@ -47,9 +45,9 @@ list! {
 
 parts! {
     /// An attribute of a request (RFC 2986 4.1) or of a subject (RFC 5280 4.2.1.8).
-    RequestAttribute: RequestAttributeFields as dm_request_attribute;
+    RequestAttribute: RequestAttributeFields;
     /// Its type.
-    identifier: Octets<'a> as ObjectIdentifier<'a>,
+    identifier as ObjectIdentifier<'a>,
     /// The encodings of its values: read them with a [`Reader`](crate::Reader).
-    values: Octets<'a> as &'a [u8],
+    values as &'a [u8],
 }

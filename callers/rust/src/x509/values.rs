@@ -1,6 +1,6 @@
 //! Further values of extensions.
-use super::{Error, GeneralName, GeneralNames, RelativeName, RequestAttribute};
-use crate::ffi::{self, AnyFields, BitsFields, GeneralNameFields, Octets};
+use super::{Error, GeneralName, GeneralNames, RelativeName, RequestAttribute, RevocationReason};
+use crate::ffi::{self, AnyFields};
 use crate::{BitString, ObjectIdentifier, Tag};
 
 list! {
@@ -10,11 +10,11 @@ list! {
 
 parts! {
     /// A policy (RFC 5280 4.2.1.4).
-    Policy: PolicyFields as dm_policy;
+    Policy: PolicyFields;
     /// Its identifier.
-    identifier: Octets<'a> as ObjectIdentifier<'a>,
+    identifier as ObjectIdentifier<'a>,
     /// Its qualifiers.
-    qualifiers: Octets<'a> as PolicyQualifiers<'a>,
+    qualifiers as PolicyQualifiers<'a>,
 }
 
 list! {
@@ -24,11 +24,11 @@ list! {
 
 parts! {
     /// A qualifier of a [`Policy`].
-    PolicyQualifier: PolicyQualifierFields as dm_policy_qualifier;
+    PolicyQualifier: PolicyQualifierFields;
     /// Its type.
-    identifier: Octets<'a> as ObjectIdentifier<'a>,
+    identifier as ObjectIdentifier<'a>,
     /// Its value: the tag, and the content octets, which aren't read.
-    value: AnyFields<'a> as (Tag, &'a [u8]),
+    value as (Tag, &'a [u8]),
 }
 
 impl<'a> From<AnyFields<'a>> for (Tag, &'a [u8]) {
@@ -45,24 +45,24 @@ list! {
 
 parts! {
     /// Where a CRL is (RFC 5280 4.2.1.13).
-    DistributionPoint: DistributionPointFields as dm_distribution_point;
+    DistributionPoint: DistributionPointFields;
     /// Its names, if any.
-    full_name: Octets<'a> as GeneralNames<'a>,
+    full_name as GeneralNames<'a>,
     /// A name relative to the issuer's. It has no attribute if it is absent.
-    relative_name: Octets<'a> as RelativeName<'a>,
+    relative_name as RelativeName<'a>,
     /// A bit for each reason, from keyCompromise (1) to aACompromise (8). `None` for all.
-    reasons: BitsFields<'a> as Option<BitString<'a>>,
+    reasons as Option<BitString<'a>>,
     /// Who signs the CRL, if it isn't the certificate's issuer.
-    crl_issuer: Octets<'a> as GeneralNames<'a>,
+    crl_issuer as GeneralNames<'a>,
 }
 
 parts! {
     /// NameConstraints (RFC 5280 4.2.1.10).
-    NameConstraints: NameConstraintsFields as dm_name_constraints from read_name_constraints;
+    NameConstraints: NameConstraintsFields from read_name_constraints;
     /// Names that certificates may have, if any.
-    permitted: Octets<'a> as Subtrees<'a>,
+    permitted as Subtrees<'a>,
     /// Names that certificates may not have, if any.
-    excluded: Octets<'a> as Subtrees<'a>,
+    excluded as Subtrees<'a>,
 }
 
 list! {
@@ -72,15 +72,13 @@ list! {
 
 parts! {
     /// A name and those below it (RFC 5280 4.2.1.10).
-    Subtree: SubtreeFields as dm_subtree;
+    Subtree: SubtreeFields;
     /// The name. An address is followed by its mask: 8 octets of IPv4, 32 of IPv6.
-    base: GeneralNameFields<'a> as GeneralName<'a>,
+    base as GeneralName<'a>,
     /// RFC 5280 allows only 0, which isn't checked.
-    minimum: u32 as u32,
+    minimum as u32,
     /// RFC 5280 allows only `None`, which isn't checked.
-    maximum: u32 as u32 where has_maximum,
-    has_maximum: u32,
-    reserved: u32,
+    maximum as u32 where has_maximum,
 }
 
 list! {
@@ -91,11 +89,11 @@ list! {
 
 parts! {
     /// Where information is (RFC 5280 4.2.2).
-    AccessDescription: AccessDescriptionFields as dm_access_description;
+    AccessDescription: AccessDescriptionFields;
     /// The access method.
-    method: Octets<'a> as ObjectIdentifier<'a>,
+    method as ObjectIdentifier<'a>,
     /// The location.
-    location: GeneralNameFields<'a> as GeneralName<'a>,
+    location as GeneralName<'a>,
 }
 
 list! {
@@ -105,11 +103,11 @@ list! {
 
 parts! {
     /// A policy of the issuer, and the subject's policy that it equals (RFC 5280 4.2.1.5).
-    PolicyMapping: PolicyMappingFields as dm_policy_mapping;
+    PolicyMapping: PolicyMappingFields;
     /// issuerDomainPolicy
-    issuer_policy: Octets<'a> as ObjectIdentifier<'a>,
+    issuer_policy as ObjectIdentifier<'a>,
     /// subjectDomainPolicy
-    subject_policy: Octets<'a> as ObjectIdentifier<'a>,
+    subject_policy as ObjectIdentifier<'a>,
 }
 
 /// PolicyConstraints (RFC 5280 4.2.1.11).
@@ -144,22 +142,22 @@ list! {
 
 parts! {
     /// IssuingDistributionPoint (RFC 5280 5.2.5): which certificates a CRL is about.
-    IssuingDistributionPoint: IssuingDistributionPointFields as dm_issuing_distribution_point
+    IssuingDistributionPoint: IssuingDistributionPointFields
         from read_issuing_distribution_point;
     /// Where the CRL is found, if it says so.
-    full_name: Octets<'a> as GeneralNames<'a>,
+    full_name as GeneralNames<'a>,
     /// A name relative to the issuer's. It has no attribute if it is absent.
-    relative_name: Octets<'a> as RelativeName<'a>,
+    relative_name as RelativeName<'a>,
     /// A bit for each reason, as in [`DistributionPoint`]. `None` for all.
-    reasons: BitsFields<'a> as Option<BitString<'a>>,
+    reasons as Option<BitString<'a>>,
     /// Whether it lists only certificates of end entities.
-    only_contains_user_certs: u32 => only_contains_user_certs,
+    only_contains_user_certs => only_contains_user_certs,
     /// Whether it lists only certificates of CAs.
-    only_contains_ca_certs: u32 => only_contains_ca_certs,
+    only_contains_ca_certs => only_contains_ca_certs,
     /// Whether it lists certificates of other issuers.
-    indirect_crl: u32 => is_indirect,
+    indirect_crl => is_indirect,
     /// Whether it lists only attribute certificates.
-    only_contains_attribute_certs: u32 => only_contains_attribute_certs,
+    only_contains_attribute_certs => only_contains_attribute_certs,
 }
 
 list! {
@@ -180,56 +178,25 @@ list! {
 
 parts! {
     /// A statement of a qualified certificate (RFC 3739 3.2.6).
-    QcStatement: QcStatementFields as dm_qc_statement;
+    QcStatement: QcStatementFields;
     /// Its type.
-    identifier: Octets<'a> as ObjectIdentifier<'a>,
+    identifier as ObjectIdentifier<'a>,
     /// Its value: the tag, and the content octets, which aren't read.
-    info: AnyFields<'a> as (Tag, &'a [u8]) where has_info,
-    has_info: u32,
-    reserved: u32,
+    info as (Tag, &'a [u8]) where has_info,
 }
 
 parts! {
     /// The register of an organization (CA/B Forum, EV Guidelines 9.8.2).
-    OrganizationIdentifier: OrganizationIdentifierFields as dm_organization_identifier
+    OrganizationIdentifier: OrganizationIdentifierFields
         from read_organization_identifier;
     /// The kind of the register, such as VAT: three characters.
-    scheme: Octets<'a> as &'a str,
+    scheme as &'a str,
     /// The register's country, two characters.
-    country: Octets<'a> as &'a str,
+    country as &'a str,
     /// The register's state or province.
-    state_or_province: Octets<'a> as &'a str where has_state_or_province,
+    state_or_province as &'a str where has_state_or_province,
     /// The organization's number in the register.
-    reference: Octets<'a> as &'a str,
-    has_state_or_province: u32,
-    reserved: u32,
-}
-
-numbered! {
-    /// Why a certificate is revoked (RFC 5280 5.3.1).
-    #[derive(Clone, Copy, Debug, PartialEq, Eq, PartialOrd, Ord, Hash)]
-    #[non_exhaustive]
-    RevocationReason or Unspecified:
-    /// unspecified
-    Unspecified = 0,
-    /// keyCompromise
-    KeyCompromise = 1,
-    /// cACompromise
-    CaCompromise = 2,
-    /// affiliationChanged
-    AffiliationChanged = 3,
-    /// superseded
-    Superseded = 4,
-    /// cessationOfOperation
-    CessationOfOperation = 5,
-    /// certificateHold
-    CertificateHold = 6,
-    /// removeFromCRL
-    RemoveFromCrl = 8,
-    /// privilegeWithdrawn
-    PrivilegeWithdrawn = 9,
-    /// aACompromise
-    AaCompromise = 10,
+    reference as &'a str,
 }
 
 impl RevocationReason {

@@ -21,7 +21,7 @@ form_number form.Base64 = 3
 abbrev pub error_number : FormError → ℕ
 error_number (error.LooksLike kind) = 10
 error_number error.Hex = 11
-error_number error.Base64 = 12
+error_number (error.Base64 fault) = 12
 error_number error.NoBlock = 13
 error_number error.NoEnd = 14
 error_number error.LabelsDiffer = 15

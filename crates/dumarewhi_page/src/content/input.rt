@@ -115,7 +115,7 @@ fn error_number(e: FormError) -> u32
     match e {
         FormError::LooksLike(_) => 10,
         FormError::Hex => 11,
-        FormError::Base64 => 12,
+        FormError::Base64(_) => 12,
         FormError::NoBlock => 13,
         FormError::NoEnd => 14,
         FormError::LabelsDiffer => 15,

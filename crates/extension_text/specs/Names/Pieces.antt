@@ -17,6 +17,11 @@ infixr 20 ◌⨾◌
 abbrev pub ◌⨾◌ : (List ℕ → Type 0) → (List ℕ → Type 0) → List ℕ → Type 0
 ◌⨾◌ P Q = Then P Q
 
+-- values that octets begin with, one after another, and the octets after them
+abbrev pub AreNext : {V : Type 0} → (List ℕ → V → List ℕ → Type 0) → List V → List ℕ → List ℕ → Type 0
+AreNext Next [] i end = i ≡ end
+AreNext Next (v ∷ vs) i end = (rest : List ℕ) × Next i v rest × AreNext Next vs rest end
+
 -- A text for each of the values that octets begin with, in their order. Next says with which value octets begin, and
 -- what follows it.
 pub data Each {V : Type 0} (Next : List ℕ → V → List ℕ → Type 0) (IsText : V → List ℕ → Type 0)

@@ -41,7 +41,7 @@ impl fmt::Display for AnyValue<'_> {
 }
 
 /// Returns whether an element is primitive and a character string.
-fn is_string(element: &Any<'_>) -> bool
+pub(crate) fn is_string(element: &Any<'_>) -> bool
     ensures { result ≡ is_string (element_of element.now) }
 {
     element.class() == Class::Universal

@@ -7,28 +7,23 @@ ghost use Rattle.der_cursor.specs.Elements.{element_of};
 ghost use Rattle.der_print.specs.Writes.{WritesOne};
 ghost use Rattle.x509.specs.Certificates.{attribute_of};
 ghost use Rattle.x509.specs.Lists.{attributes_left, names_left};
-ghost use Rattle.extension_text.specs.Names.Names.{AreFurther, IsAttribute, IsComma, IsName, IsNameLine, IsNameText};
-ghost use Rattle.extension_text.specs.Names.Names.{IsAfterPlus, IsRelativeName, IsShortName, coding_of, element_hex};
-ghost use Rattle.extension_text.specs.Names.Names.{header_hex};
-ghost use Rattle.extension_text.specs.Names.Names.{value_text, x520_name};
-ghost use Rattle.extension_text.specs.Names.Names.{other_value_text, text_of_characters, width_of};
+ghost use Rattle.extension_text.specs.Names.Names.{AreBackwards, AreFurther, HasNames, IsAfterPlus, IsAttribute};
+ghost use Rattle.extension_text.specs.Names.Names.{IsName, IsNameLine, IsRelativeName, IsShortName, IsTypeName, Passes};
+ghost use Rattle.extension_text.specs.Names.Names.{element_hex, has_whole_characters, header_hex, value_text};
+ghost use Rattle.extension_text.specs.Names.Names.{x520_name};
 ghost use Rattle.extension_text.specs.Names.Values.{hex};
-ghost use Rattle.extension_text.specs.Names.Wide.{characters};
 
-use crate::names::escaped::{Coding, write_escaped};
-use crate::names::wide::{Width, are_characters, write_characters};
+use crate::names::element::is_string;
+use crate::names::escaped::write_escaped;
 use der_base::any::Any;
-use der_base::header::{Class, Tag};
 use der_print::{Arcs, Hex, Limit};
 use der_values::octets::header::{length_octet_count, write_length};
+use oid_names::name_of;
 use std::fmt;
 use x509::{
     AttributeTypeAndValue, Attributes, Name, RelativeDistinguishedName, RelativeNames,
     absolute_octets,
 };
-
-/// The most relative names that are written.
-const MOST: u32 = 64;
 
 /// The most length octets of a length.
 const MOST_LENGTH_OCTETS: usize = 9;
@@ -42,7 +37,7 @@ const USER_ID: &[u8] = b"\x09\x92\x26\x89\x93\xf2\x2c\x64\x01\x01";
 /// emailAddress: 1.2.840.113549.1.9.1.
 const EMAIL_ADDRESS: &[u8] = b"\x2a\x86\x48\x86\xf7\x0d\x01\x09\x01";
 
-/// A name as text (RFC 4514), the last relative name first. `...` stands for relative names after the first 64.
+/// A name as text (RFC 4514), the last relative name first.
 #[derive(Clone, Copy)]
 pub struct NameText<'a> {
     pub name: Name<'a>,
@@ -67,43 +62,62 @@ pub fn write_name_line<W: fmt::Write>(
     write!(f, "\n")
 }
 
-/// Writes a name in printable ASCII (RFC 4514), the last relative name first. `...` stands for relative names after the
-/// first 64.
+/// Writes a name in UTF-8 (RFC 4514), the last relative name first. It takes `n log n` steps for `n` relative names.
 pub fn write_name<W: fmt::Write>(f: &mut fmt::Formatter<W>, name: Name<'_>) -> fmt::Result
     ensures { WritesOne W.Write.write_str_gives f.old result (IsName name.entry.octets.now) f.new }
 {
-    write_backwards(f, name.relative_names(), MOST)
+    let names = name.relative_names();
+    let (_, count) = pass(names, name.octets.len());
+    write_backwards(f, names, count)
 }
 
-/// Writes up to `most` relative names, the last one first, and `...` for the others.
+/// Writes the first `count` relative names, the last one first: those of the second half, then those of the first.
 fn write_backwards<W: fmt::Write>(
     f: &mut fmt::Formatter<W>,
     names: RelativeNames<'_>,
-    most: u32,
+    count: usize,
 ) -> fmt::Result
-    ensures { WritesOne W.Write.write_str_gives f.old result (IsNameText most (names_left names.entry)) f.new }
+    requires { HasNames count (names_left names) }
+    ensures { WritesOne W.Write.write_str_gives f.old result (AreBackwards count (names_left names.entry)) f.new }
 {
-    let mut rest = names;
-    let Some(first) = rest.next() else {
+    if count == 0 {
         return Ok(());
-    };
-    if most == 0 {
-        return write!(f, "...");
     }
-    write_backwards(f, rest, most - 1)?;
-    write_comma(f, rest)?;
-    write_relative_name(f, first)
+    if count == 1 {
+        return write_first(f, names);
+    }
+    let half = count / 2;
+    let (behind, _) = pass(names, half);
+    write_backwards(f, behind, count - half)?;
+    write!(f, ",")?;
+    write_backwards(f, names, half)
 }
 
-/// Writes a comma, if there are relative names.
-fn write_comma<W: fmt::Write>(f: &mut fmt::Formatter<W>, names: RelativeNames<'_>) -> fmt::Result
-    ensures { WritesOne W.Write.write_str_gives f.old result (IsComma (names_left names.entry)) f.new }
+/// Writes the first relative name.
+fn write_first<W: fmt::Write>(f: &mut fmt::Formatter<W>, names: RelativeNames<'_>) -> fmt::Result
+    requires { HasNames 1 (names_left names) }
+    ensures { WritesOne W.Write.write_str_gives f.old result (AreBackwards 1 (names_left names.entry)) f.new }
 {
     let mut rest = names;
     match rest.next() {
-        Some(_) => write!(f, ","),
+        Some(name) => write_relative_name(f, name),
         None => Ok(()),
     }
+}
+
+/// Passes up to `most` relative names. Returns those after them, and how many were passed.
+fn pass(names: RelativeNames<'_>, most: usize) -> (RelativeNames<'_>, usize)
+    ensures { Passes most (names_left names.entry) (names_left result.0) result.1 }
+{
+    let mut left = names;
+    let mut count = 0;
+    while count < most {
+        let Some(_) = left.next() else {
+            return (left, count);
+        };
+        count += 1;
+    }
+    (left, count)
 }
 
 /// Writes the attributes of a relative name, with plus signs between them.
@@ -145,7 +159,7 @@ fn write_after_plus<W: fmt::Write>(
     write_attribute(f, attribute)
 }
 
-/// Writes the type and the value of an attribute. If the type has no short name, the value is `#` and the element in
+/// Writes the type and the value of an attribute. If the type has no name, the value is `#` and the element in
 /// hexadecimal (RFC 4514 2.4).
 fn write_attribute<W: fmt::Write>(
     f: &mut fmt::Formatter<W>,
@@ -154,7 +168,7 @@ fn write_attribute<W: fmt::Write>(
     ensures { WritesOne W.Write.write_str_gives f.old result (IsAttribute (attribute_of attribute.now)) f.new }
 {
     let octets = absolute_octets(&attribute.identifier);
-    match short_name(octets) {
+    match type_name(octets) {
         Some(name) => {
             write!(f, "{name}=")?;
             write_value(f, &attribute.value)
@@ -164,6 +178,16 @@ fn write_attribute<W: fmt::Write>(
             write!(f, "{}=", Arcs { octets, relative })?;
             write_element(f, &attribute.value)
         }
+    }
+}
+
+/// The name of a type: its short name, or else the one that it has in the table of identifiers.
+fn type_name(octets: &[u8]) -> Option<&'static str>
+    ensures { IsTypeName octets.now (option_map (λ n. n.now) result) }
+{
+    match short_name(octets) {
+        Some(name) => Some(name),
+        None => name_of(octets),
     }
 }
 
@@ -212,62 +236,21 @@ fn x520_name(number: u8) -> Option<&'static str>
 fn write_value<W: fmt::Write>(f: &mut fmt::Formatter<W>, value: &Any<'_>) -> fmt::Result
     ensures { DisplaysOnOk W.Write.write_str_gives f.old result (Some (value_text (element_of value.now))) f.new }
 {
-    match coding_of(value) {
-        Some(coding) => write_escaped(f, coding, value.bytes),
-        None => write_other_value(f, value),
-    }
-}
-
-/// Writes a value that isn't a string of octets.
-fn write_other_value<W: fmt::Write>(f: &mut fmt::Formatter<W>, value: &Any<'_>) -> fmt::Result
-    ensures { DisplaysOnOk W.Write.write_str_gives f.old result (Some (other_value_text (element_of value.now))) f.new }
-{
-    match width_of(value) {
-        Some(width) => write_wide(f, width, value),
-        None => write_element(f, value),
-    }
-}
-
-/// Writes a string of wide characters, or the element if its content isn't one.
-fn write_wide<W: fmt::Write>(
-    f: &mut fmt::Formatter<W>,
-    width: Width,
-    value: &Any<'_>,
-) -> fmt::Result
-    ensures { let e = element_of value.now in
-        DisplaysOnOk W.Write.write_str_gives f.old result (Some (text_of_characters (characters width e.3) e)) f.new }
-{
-    if are_characters(width, value.bytes) {
-        return write_characters(f, width, value.bytes);
+    let number = value.tag().0;
+    if is_string(value) && has_whole_characters(number, value.bytes) {
+        return write_escaped(f, number, value.bytes);
     }
     write_element(f, value)
 }
 
-/// The octets per character of a value, if it is a string of wide characters.
-fn width_of(value: &Any<'_>) -> Option<Width>
-    ensures { result ≡ width_of (element_of value.now) }
+/// Returns whether the octets of a BMPString or a UniversalString are whole characters.
+fn has_whole_characters(number: u32, octets: &[u8]) -> bool
+    ensures { result ≡ has_whole_characters number octets.now }
 {
-    if value.class() != Class::Universal || value.header.constructed() {
-        return None;
-    }
-    match value.tag().0 {
-        28 => Some(Width::Four),
-        30 => Some(Width::Two),
-        _ => None,
-    }
-}
-
-/// The encoding of a value's characters, if it is a string of octets.
-fn coding_of(value: &Any<'_>) -> Option<Coding>
-    ensures { result ≡ coding_of (element_of value.now) }
-{
-    if value.class() != Class::Universal || value.header.constructed() {
-        return None;
-    }
-    match value.tag().0 {
-        12 | 18 | 19 | 22 | 26 => Some(Coding::Utf8),
-        20 => Some(Coding::Latin1),
-        _ => None,
+    match number {
+        28 => octets.len() % 4 == 0,
+        30 => octets.len() % 2 == 0,
+        _ => true,
     }
 }
 

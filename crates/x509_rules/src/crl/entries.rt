@@ -55,7 +55,7 @@ fn is_one_broken(rule: EntryRule, entries: RevokedCertificates<'_>) -> bool
 }
 
 /// Returns whether the entry breaks the rule.
-fn breaks_entry(rule: EntryRule, entry: &RevokedCertificate<'_>) -> bool
+pub(crate) fn breaks_entry(rule: EntryRule, entry: &RevokedCertificate<'_>) -> bool
     ensures { IsTrue result ↔ BreaksEntry rule (revoked_of entry.now) }
 {
     match rule {

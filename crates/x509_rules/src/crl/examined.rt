@@ -1,9 +1,12 @@
 //! A CRL, with what is read of it once for all rules.
-ghost use Rattle.std.specs.Prelude.{◌≡◌, ◌↔◌, IsTrue};
+ghost use Rattle.std.specs.Prelude.{◌≡◌, ◌↔◌, IfSome, IsTrue};
 ghost use Rattle.x509.specs.Crl.Lists.{certificate_list_of};
 ghost use Rattle.x509_rules.specs.Crl.Examined.{IsExaminedList, signed_list_of};
+ghost use Rattle.x509_rules.specs.Crl.Entries.{SomeEntry};
 ghost use Rattle.x509_rules.specs.Crl.WholeLists.{ListHas};
 
+use crate::crl::entries::{EntryRule, is_entry_broken};
+use crate::crl::marks::{ENTRY_MARKS, marked, marks_of};
 use der_extensions::KnownExtension;
 use x509::crl::CertificateList;
 use x509_value_rules::facts::Fact;
@@ -15,6 +18,8 @@ pub(crate) struct ExaminedList<'r, 'a> {
     pub signed: &'r CertificateList<'a>,
     /// The extensions of the CRL.
     pub extensions: SortedExtensions<'a>,
+    /// The rules that its entries break; None if they weren't read.
+    pub marks: Option<[bool; ENTRY_MARKS]>,
 }
 
 /// A CRL for one question: nothing is read ahead.
@@ -23,7 +28,11 @@ pub(crate) fn unexamined_list<'r, 'a>(signed: &'r CertificateList<'a>) -> Examin
     ensures examined { IsExaminedList result }
 {
     let extensions = SortedExtensions::unsorted(signed.tbs_cert_list.crl_extensions);
-    ExaminedList { signed, extensions }
+    ExaminedList {
+        signed,
+        extensions,
+        marks: None,
+    }
 }
 
 /// A CRL for this number of questions.
@@ -36,7 +45,16 @@ pub(crate) fn examine_list<'r, 'a>(
 {
     let reads_ahead = questions > FEW_QUESTIONS;
     let extensions = SortedExtensions::sort(signed.tbs_cert_list.crl_extensions, reads_ahead);
-    ExaminedList { signed, extensions }
+    let marks = if reads_ahead {
+        Some(marks_of(&signed.tbs_cert_list.revoked_certificates))
+    } else {
+        None
+    };
+    ExaminedList {
+        signed,
+        extensions,
+        marks,
+    }
 }
 
 /// Returns whether an extension with the identifier of `known` shows the fact.
@@ -45,4 +63,26 @@ pub(crate) fn list_has(list: &ExaminedList<'_, '_>, known: KnownExtension, fact:
     ensures { IsTrue result ↔ ListHas known fact (signed_list_of list.now) }
 {
     list.extensions.show(known, fact)
+}
+
+/// Returns whether an entry breaks the rule.
+pub(crate) fn breaks_of_entry(rule: EntryRule, list: &ExaminedList<'_, '_>) -> bool
+    requires { IsExaminedList list.now }
+    ensures { IsTrue result ↔ SomeEntry rule (signed_list_of list.now).tbs_cert_list.revoked }
+{
+    match mark_of(rule, list) {
+        Some(is_broken) => is_broken,
+        None => is_entry_broken(rule, &list.signed.tbs_cert_list.revoked_certificates),
+    }
+}
+
+/// Returns whether an entry breaks the rule, if the entries were read and the rule has a mark.
+fn mark_of(rule: EntryRule, list: &ExaminedList<'_, '_>) -> Option<bool>
+    requires { IsExaminedList list.now }
+    ensures { IfSome result (λ b. IsTrue b ↔ SomeEntry rule (signed_list_of list.now).tbs_cert_list.revoked) }
+{
+    match &list.marks {
+        Some(marks) => marked(rule, marks),
+        None => None,
+    }
 }

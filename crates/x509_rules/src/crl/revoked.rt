@@ -6,8 +6,10 @@ ghost use Rattle.x509_rules.specs.Crl.Examined.{IsExaminedList, signed_list_of};
 ghost use Rattle.x509_rules.specs.Crl.ListRules.{BreaksList, FindsBrokenOfList, YieldsBrokenOfList, list_in};
 ghost use Rattle.x509_rules.specs.Crl.ListRules.{list_rules_left};
 
-use crate::crl::entries::{EntryRule, is_entry_broken};
-use crate::crl::examined::{ExaminedList, examine_list, list_has, unexamined_list};
+use crate::crl::entries::EntryRule;
+use crate::crl::examined::{
+    ExaminedList, breaks_of_entry, examine_list, list_has, unexamined_list,
+};
 use crate::crl::whole_list::{WholeListRule, breaks_whole_list};
 use der_extensions::KnownExtension;
 use x509::crl::CertificateList;
@@ -300,9 +302,7 @@ fn examined_list_breaks(rule: ListRule, list: &ExaminedList<'_, '_>) -> bool
         ListRule::Critical(known) => list_has(list, known, Fact::NotCritical),
         ListRule::NotCritical(known) => list_has(list, known, Fact::Critical),
         ListRule::Value(known, rule) => list_has(list, known, Fact::Breaks(rule)),
-        ListRule::Entry(rule) => {
-            is_entry_broken(rule, &list.signed.tbs_cert_list.revoked_certificates)
-        }
+        ListRule::Entry(rule) => breaks_of_entry(rule, list),
         ListRule::Whole(rule) => breaks_whole_list(rule, list),
     }
 }
@@ -312,7 +312,12 @@ fn examined_list_breaks(rule: ListRule, list: &ExaminedList<'_, '_>) -> bool
 pub struct BrokenListRules<'r, 'a> {
     list: &'r CertificateList<'a>,
     left: &'r [ListRule],
+    /// The number of broken rules so far.
+    found: usize,
 }
+
+/// After so many broken rules the CRL isn't examined ahead any more. Each time walks all entries.
+const FEW_BROKEN: usize = 4;
 
 /// A broken rule, and the rules after it.
 #[derive(Clone, Copy)]
@@ -332,7 +337,11 @@ pub fn broken_list_rules<'r, 'a>(
 {
     // Callers that count need to know that there are fewer than 2^64.
     let _count = rules.len();
-    BrokenListRules { list, left: rules }
+    BrokenListRules {
+        list,
+        left: rules,
+        found: 0,
+    }
 }
 
 impl<'r, 'a> Iterator for BrokenListRules<'r, 'a> {
@@ -343,20 +352,23 @@ impl<'r, 'a> Iterator for BrokenListRules<'r, 'a> {
     ghost remaining = { λ s. at_most (length (list_rules_left s)) };
 
     fn next(&mut self) -> Option<ListRule> {
-        let first = first_broken_of_list(self.list, self.left)?;
+        let first = first_broken_of_list(self.list, self.left, self.found < FEW_BROKEN)?;
         self.left = first.rest;
+        self.found = self.found.saturating_add(1);
         Some(first.rule)
     }
 }
 
-/// Returns the first rule that the CRL breaks. It is examined once for all of them.
+/// Returns the first rule that the CRL breaks. With `reads_ahead`, it is examined once for all of them.
 fn first_broken_of_list<'r>(
     list: &CertificateList<'_>,
     rules: &'r [ListRule],
+    reads_ahead: bool,
 ) -> Option<FirstBrokenOfList<'r>>
     ensures { FindsBrokenOfList (certificate_list_of list.now) rules.now result }
 {
-    let examined = examine_list(list, rules.len());
+    let questions = if reads_ahead { rules.len() } else { 0 };
+    let examined = examine_list(list, questions);
     let mut left = rules;
     while let Some((rule, rest)) = left.split_first() {
         if examined_list_breaks(*rule, &examined) {

@@ -6,8 +6,8 @@ ghost use Rattle.x509.specs.Rules.{HasFraction, IsEarly};
 ghost use Rattle.x509_rules.specs.Crl.Examined.{IsExaminedList, signed_list_of};
 ghost use Rattle.x509_rules.specs.Crl.WholeLists.{BreaksWholeList, HasRemoval, IsDelta, ListTells};
 
-use crate::crl::entries::{EntryRule, is_entry_broken};
-use crate::crl::examined::{ExaminedList, list_has};
+use crate::crl::entries::EntryRule;
+use crate::crl::examined::{ExaminedList, breaks_of_entry, list_has};
 use crate::crl::fields::{has_fraction, is_early, is_same};
 use der_extensions::KnownExtension;
 use x509::crl::{CertificateList, RevokedCertificates};
@@ -173,7 +173,7 @@ fn breaks_removal_of_delta(list: &ExaminedList<'_, '_>) -> bool
     requires { IsExaminedList list.now }
     ensures { IsTrue result ↔ BreaksWholeList WholeListRule.RemovalOfDelta (signed_list_of list.now) }
 {
-    has_removal(list.signed) && !is_delta(list)
+    has_removal(list) && !is_delta(list)
 }
 
 fn is_next_early(next: Option<Time>) -> bool
@@ -213,14 +213,15 @@ fn is_delta(list: &ExaminedList<'_, '_>) -> bool
 }
 
 /// Returns whether an entry has the reason removeFromCRL.
-fn has_removal(list: &CertificateList<'_>) -> bool
-    ensures { IsTrue result ↔ HasRemoval (certificate_list_of list.now) }
+fn has_removal(list: &ExaminedList<'_, '_>) -> bool
+    requires { IsExaminedList list.now }
+    ensures { IsTrue result ↔ HasRemoval (signed_list_of list.now) }
 {
     let removal = EntryRule::Without(
         KnownExtension::ReasonCode,
         Fact::Says(ValueFact::RemoveFromCrl),
     );
-    is_entry_broken(removal, &list.tbs_cert_list.revoked_certificates)
+    breaks_of_entry(removal, list)
 }
 
 /// Returns whether the value of the fact's extension says it.

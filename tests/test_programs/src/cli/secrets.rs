@@ -6,6 +6,7 @@ use base64::engine::general_purpose::STANDARD;
 use keys::{KEYS, Number};
 use std::alloc::{AllocError, Global};
 use std::collections::BTreeSet;
+use std::process::Abort;
 use std::rt::Files;
 use std::test::Fail;
 
@@ -122,25 +123,50 @@ fn shows_any(
     Ok(false)
 }
 
-#[test]
-fn no_private_number_is_printed_by_type(rt: HostRuntime) -> Result<(), Fail> {
+/// Prints each key of a type by itself, and by this type.
+fn print_keys_of(rt: &(impl Files + AllocGlobal + Abort), of: &str) -> Result<(), Fail> {
+    assert!(rt; KEYS.iter().any(|key| key.1 == of), "no key is a {of}");
     for (what, kind, octets, numbers) in KEYS {
+        if *kind != of {
+            continue;
+        }
         for arguments in BY_ITSELF {
-            assert!(rt; !shows_any(&rt, arguments, octets, numbers)?, "{what}: {arguments:?}");
+            assert!(rt; !shows_any(rt, arguments, octets, numbers)?, "{what}: {arguments:?}");
         }
         for (name, arguments) in TREES {
             if name == kind {
-                assert!(rt; !shows_any(&rt, arguments, octets, numbers)?, "{what}: {arguments:?}");
+                assert!(rt; !shows_any(rt, arguments, octets, numbers)?, "{what}: {arguments:?}");
             }
         }
     }
     Ok(())
 }
 
+#[test]
+fn no_private_number_of_a_private_key_info_is_printed(rt: HostRuntime) -> Result<(), Fail> {
+    print_keys_of(&rt, "PrivateKeyInfo")
+}
+
+#[test]
+fn no_private_number_of_an_rsa_key_is_printed(rt: HostRuntime) -> Result<(), Fail> {
+    print_keys_of(&rt, "RSAPrivateKey")
+}
+
+#[test]
+fn no_private_number_of_an_ec_key_is_printed(rt: HostRuntime) -> Result<(), Fail> {
+    print_keys_of(&rt, "ECPrivateKey")
+}
+
+#[test]
+fn no_private_number_of_a_pfx_is_printed(rt: HostRuntime) -> Result<(), Fail> {
+    print_keys_of(&rt, "PFX")
+}
+
 /// So the numbers would be found.
 #[test]
 fn all_private_numbers_are_printed_without_a_type(rt: HostRuntime) -> Result<(), Fail> {
-    for (what, _, octets, numbers) in KEYS {
+    for (what, kind, octets, numbers) in KEYS {
+        assert!(rt; TREES.iter().any(|tree| tree.0 == *kind), "{what}: no tree by {kind}");
         for arguments in WHOLE {
             let (screen, _) = on_screen(&rt, arguments, &[], octets, false);
             let shown = Shown::new(rt.alloc(), &screen)?;

@@ -256,7 +256,7 @@ der: standard input, block 2 (B): at 0: the input is cut, at least 1 octet is mi
         arguments: &["der", "tree"],
         input: FORMS,
         screen: "standard input: A\n      0  2+0       NULL\nstandard input: B\n\
-der: standard input, block 2 (B): invalid base64\n\
+der: standard input, block 2 (B): invalid base64 on its line 2: unexpected '='\n\
 der: standard input: a block without its line -----END ..-----\n",
     },
     Row {

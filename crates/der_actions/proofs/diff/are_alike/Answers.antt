@@ -1,7 +1,7 @@
 use Rattle.std.proofs.Common.{◌≡◌, ◌∙◌, ◌+◌, ◌<◌, List, ap, arith, false, get_or, length, refl, rules, sym, take, true, ℕ}
 use Rattle.std.specs.Prelude.{map}
 use Rattle.std.proofs.lemmas.List.{get_or-map, length-map, take_more_same}
-use Rattle.der_elements.specs.declared.element.Element.{Element}
+use Rattle.der_actions.specs.declared.diff.NamedElement.{NamedElement}
 use Rattle.der_actions.specs.Differences.{compared}
 use Rattle.der_actions.proofs.diff.are_alike.Goals as goal
 
@@ -9,14 +9,14 @@ no_truth : {P : Type 0} → false ≡ true → P
 no_truth e = cc
 
 -- one more pair is alike
-one_more : (xs ys : List Element) (i : ℕ) (x y : Element) → i < length xs → i < length ys → compared (get_or xs i x) ≡ compared (get_or ys i y)
+one_more : (xs ys : List NamedElement) (i : ℕ) (x y : NamedElement) → i < length xs → i < length ys → compared (get_or xs i x) ≡ compared (get_or ys i y)
     → take i (map compared xs) ≡ take i (map compared ys) → take (i + 1) (map compared xs) ≡ take (i + 1) (map compared ys)
 one_more xs ys i x y m n alike before =
     take_more_same (map compared xs) (map compared ys) i (compared x) (omega (arith, m, length-map xs compared)) (omega (arith, n, length-map ys compared)) before
     (get_or-map compared xs i x (compared x) m ∙ alike ∙ sym (get_or-map compared ys i y (compared x) n))
 
 -- a pair of lists that are alike
-pair : (xs ys : List Element) (i : ℕ) (x y : Element) → i < length xs → i < length ys → map compared xs ≡ map compared ys
+pair : (xs ys : List NamedElement) (i : ℕ) (x y : NamedElement) → i < length xs → i < length ys → map compared xs ≡ map compared ys
     → compared (get_or xs i x) ≡ compared (get_or ys i y)
 pair xs ys i x y m n alike =
     sym (get_or-map compared xs i x (compared x) m) ∙ ap (λ zs. get_or zs i (compared x)) alike ∙ get_or-map compared ys i y (compared x) n

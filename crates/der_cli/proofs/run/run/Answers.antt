@@ -4,11 +4,12 @@ use Rattle.base64.specs.GeneralPurpose.{decode_of as base64_decode_of}
 use Rattle.hex.specs.Hex.{decode_of as hex_decode_of}
 use Rattle.der_input.specs.declared.error.FormError.TheVariants as error
 use Rattle.der_input.specs.declared.form.Form.TheVariants.{Base64, Der, Hex, Pem}
+use Rattle.der_input.specs.Faults.{IsBase64Error}
 use Rattle.der_input.specs.Plain.{characters_of, digits_of}
 use Rattle.der_cli.specs.Inputs.{ReadsBlocks, ReadsInput, RefusesBlocks, RefusesInput, blocks, octets, refused_blocks, refused_octets, without_form, without_octets}
 use Rattle.der_cli.specs.Outputs.{RefusesFile, WritesFile}
 use Rattle.der_actions.proofs.Printing.{then_reads, then_refuses}
-use Rattle.der_cli.proofs.Refusing.{no_octets, of_digits, refuses_all}
+use Rattle.der_cli.proofs.Refusing.{no_octets, no_octets_after, of_digits, refuses_all}
 use Rattle.der_cli.proofs.run.run.Goals as goal
 
 both : {A E : Type 0} (r : Result A E) (P Q : A → Type 0) → IsOkAnd r P → IfOk r Q → (v : A) × P v × Q v
@@ -106,8 +107,8 @@ returns-in-Ok-Hex-clause-refused g c =
     let spelled = hex_decode_of (digits_of i) in
     then_refuses c.act_on_decoded.result (MatchResult r (λ v. RefusesFile o name v.items old new) (λ e. e ≢ error.OutOfMemory)) (RefusesInput o name i old new)
     (λ h.
-    of_digits r (λ v. RefusesFile o name v.items old new) (λ v. spelled ≡ Ok v.items) error.Hex (IsErr spelled) (RefusesInput o name i old new) h c.decode_hex.ensures.ok c.decode_hex.ensures.err
-    (λ v spells no. refused_octets Hex v.items form spells no) (λ failed. without_octets Hex form hex_is_no_pem (no_octets spelled failed)))
+    of_digits r (λ v. RefusesFile o name v.items old new) (λ v. spelled ≡ Ok v.items) (λ e. (e ≡ error.Hex) × IsErr spelled) (RefusesInput o name i old new) h c.decode_hex.ensures.ok c.decode_hex.ensures.err
+    (λ v spells no. refused_octets Hex v.items form spells no) (λ e failed. without_octets Hex form hex_is_no_pem (no_octets spelled failed.1)))
     c.act_on_decoded.ensures.refused
 
 pub returns-in-Ok-Base64-clause-refused : goal.returns-in-Ok-Base64-clause-refused
@@ -122,8 +123,9 @@ returns-in-Ok-Base64-clause-refused g c =
     let spelled = base64_decode_of standard_pad_indifferent (characters_of i) in
     then_refuses c.act_on_decoded-in-Ok-Base64.result (MatchResult r (λ v. RefusesFile o name v.items old new) (λ e. e ≢ error.OutOfMemory)) (RefusesInput o name i old new)
     (λ h.
-    of_digits r (λ v. RefusesFile o name v.items old new) (λ v. spelled ≡ Ok v.items) error.Base64 (IsErr spelled) (RefusesInput o name i old new) h c.decode_base64.ensures.ok c.decode_base64.ensures.err
-    (λ v spells no. refused_octets Base64 v.items form spells no) (λ failed. without_octets Base64 form base64_is_no_pem (no_octets spelled failed)))
+    of_digits r (λ v. RefusesFile o name v.items old new) (λ v. spelled ≡ Ok v.items) (IsBase64Error i) (RefusesInput o name i old new) h c.decode_base64.ensures.ok c.decode_base64.ensures.err
+    (λ v spells no. refused_octets Base64 v.items form spells no)
+    (λ e failed. without_octets Base64 form base64_is_no_pem (no_octets_after spelled failed.2.0 failed.2.1)))
     c.act_on_decoded-in-Ok-Base64.ensures.refused
 
 pub returns-in-Err-clause-refused : goal.returns-in-Err-clause-refused

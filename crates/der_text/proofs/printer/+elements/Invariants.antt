@@ -1,5 +1,7 @@
 use Rattle.std.proofs.Common.{◌+◌, ◌*◌, ◌-◌, length}
+use Rattle.der_text.specs.Looks.{ElementsText, ToEndText}
 use Rattle.der_text.specs.Printed.{Prints}
+use Rattle.der_text.proofs.Looks.{SoFar}
 use Rattle.der_text.proofs.printer.+elements.Given as goal
 
 abbrev pub decreases-write_elements : goal.decreases-write_elements
@@ -18,13 +20,17 @@ abbrev pub decreases-write_content : goal.decreases-write_content
 decreases-write_content l = 4 * (100 - l.depth)
 
 abbrev pub invariant-write_elements-elements : goal.invariant-write_elements-elements
-invariant-write_elements-elements l = Prints l.initial.out.items l.out.items l.octets l.rest
+invariant-write_elements-elements l =
+    Prints l.initial.out.items l.out.items l.octets l.rest
+    × SoFar (λ w after out. ElementsText l.depth w out) l.initial.out.items l.out.items l.octets l.rest
 
 abbrev pub decreases-write_elements-elements : goal.decreases-write_elements-elements
 decreases-write_elements-elements l = length l.rest
 
 abbrev pub invariant-write_to_end-elements : goal.invariant-write_to_end-elements
-invariant-write_to_end-elements l = Prints l.initial.out.items l.out.items l.octets l.rest
+invariant-write_to_end-elements l =
+    Prints l.initial.out.items l.out.items l.octets l.rest
+    × SoFar (ToEndText l.depth) l.initial.out.items l.out.items l.octets l.rest
 
 abbrev pub decreases-write_to_end-elements : goal.decreases-write_to_end-elements
 decreases-write_to_end-elements l = length l.rest

@@ -1,5 +1,8 @@
-use Rattle.der_text.proofs.Printed.{is_form, pushed_brace}
+use Rattle.std.proofs.Common.{◌∙◌}
+use Rattle.der_text.proofs.Looks.{opened_by_word}
 use Rattle.der_text.proofs.write.write_open.Goals as goal
 
-pub returns-in_ok-push-in-Shortest : goal.returns-in_ok-push-in-Shortest
-returns-in_ok-push-in-Shortest c = is_form c.in-Shortest.is (pushed_brace c.in_ok-push-in-Shortest.ensures.items)
+pub returns-clause-puts : goal.returns-clause-puts
+returns-clause-puts c =
+    opened_by_word c.args.form c.in_ok-word.ensures.count (c.as_bytes.ensures.value ∙ c.in_ok-word.ensures.word)
+    c.in_ok-extend_from_slice.ensures.items c.in_ok-push.ensures.items

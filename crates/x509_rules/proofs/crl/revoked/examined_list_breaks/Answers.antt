@@ -10,7 +10,7 @@ pub returns-in-Value : goal.returns-in-Value
 returns-in-Value c = rw c.in-Value.is c.list_has-in-Value.ensures
 
 pub returns-in-Entry : goal.returns-in-Entry
-returns-in-Entry c = rw c.in-Entry.is c.is_entry_broken.ensures
+returns-in-Entry c = rw c.in-Entry.is c.breaks_of_entry.ensures
 
 pub returns-in-Whole : goal.returns-in-Whole
 returns-in-Whole c = rw c.in-Whole.is c.breaks_whole_list.ensures

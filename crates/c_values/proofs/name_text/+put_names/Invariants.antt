@@ -1,4 +1,0 @@
-use Rattle.c_values.proofs.name_text.+put_names.Given as goal
-
-abbrev pub decreases-put_names : goal.decreases-put_names
-decreases-put_names l = l.count
