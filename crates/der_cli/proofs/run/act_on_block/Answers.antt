@@ -43,6 +43,6 @@ returns-in-Ok-clause-refused g c =
 
 pub returns : goal.returns
 returns g c = record {
-    read = search rules;
-    refused = refuses_all c.refuse_form.result (RefusesBlock c.args.options.now (lines_of c.args.block.now)) (of_lines c.in-Err.e (search rules) c.in-Err.ensures.err);
-  }
+  read = search rules;
+  refused = refuses_all c.refuse_form.result (RefusesBlock c.args.options.now (lines_of c.args.block.now)) (of_lines c.in-Err.e (search rules) c.in-Err.ensures.err);
+}
