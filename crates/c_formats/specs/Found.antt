@@ -21,8 +21,9 @@ use Rattle.c_formats.specs.ExtensionLists.{HasItems}
 use Rattle.c_formats.specs.ExtensionValues.{names_octets}
 use Rattle.c_formats.specs.Items.{HasExtension, IsExtensionKind, Taken, kind_number, left}
 
--- of the items that i begins with, one after another, the first for which P holds, and what follows it; or there is none
-pub data Finds {V : Type 0} (Item : List ℕ → V → List ℕ → Type 0) (P : V → Type 0) : List ℕ → Option (V × List ℕ) → Type 0 where
+-- of the items that i begins with, one after another, the first for which P holds and what follows it; None if for none
+pub data Finds {V : Type 0} (Item : List ℕ → V → List ℕ → Type 0) (P : V → Type 0)
+    : List ℕ → Option (V × List ℕ) → Type 0 where
   ended : {i : List ℕ} → ((v : V) (rest : List ℕ) → ¬ Item i v rest) → Finds Item P i None
   found : {i rest : List ℕ} (v : V) → Item i v rest → P v → Finds Item P i (Some (v, rest))
   passed : {i rest : List ℕ} {r : Option (V × List ℕ)} (v : V) → Item i v rest → ¬ P v → Finds Item P rest r

@@ -87,7 +87,8 @@ kind_number known.OrganizationIdentifier = 260
 
 -- the number of the extension with this identifier, given its content octets; 0 if it is unknown
 abbrev pub IsExtensionKind : List ℕ → ℕ → Type 0
-IsExtensionKind w n = (k : Option KnownExtension) × IdentifiesExtension w k × (n ≡ unwrap_or (option_map kind_number k) 0)
+IsExtensionKind w n = (k : Option KnownExtension) × IdentifiesExtension w k
+    × (n ≡ unwrap_or (option_map kind_number k) 0)
 
 -- the fields are those of the extension (4.1.2.9)
 pub record HasExtension (x : ExtensionValue) (d : DmExtension) : Type 0 where

@@ -10,7 +10,8 @@ use der_input::{Form, form_of, next_block};
 const NO_ROOM: u32 = 197;
 
 /// Writes the octets of an input to the start of a buffer, and their number: those of the first block of PEM
-/// (RFC 7468), or the input as it is if it isn't PEM. Returns 0, or the number of the error; then the number of octets is 0.
+/// (RFC 7468), or the input as it is if it isn't PEM. Returns 0, or the number of the error; then the number of octets
+/// is 0.
 pub fn decode_input(input: &[u8], room: &mut [u8], size: &mut usize) -> u32
     ensures { DecodesInput input.now room.old room.new size.new result }
 {

@@ -2,8 +2,8 @@
 ghost use Rattle.std.specs.Option.{option_map};
 ghost use Rattle.std.specs.Prelude.{◌≡◌, ◌-◌, ◌^◌, find, min, option_copied};
 ghost use Rattle.certificate_text.specs.Keys.{bit_length};
-ghost use Rattle.c_formats.specs.KeyKinds.{FindsInteger, FindsOnly, FirstInteger, HasKind, HasModulus, HasPrime, HasSize, IsKeyKind};
-ghost use Rattle.c_formats.specs.KeyKinds.{content_if, curve_in, row_of};
+ghost use Rattle.c_formats.specs.KeyKinds.{FindsInteger, FindsOnly, FirstInteger, HasKind, HasModulus};
+ghost use Rattle.c_formats.specs.KeyKinds.{HasPrime, HasSize, IsKeyKind, content_if, curve_in, row_of};
 ghost use Rattle.der_base.specs.TreeEquality.{same_octets};
 ghost use Rattle.der_base.specs.declared.rules.Rules.{Rules};
 ghost use Rattle.der_cursor.specs.Elements.{element_of};
@@ -58,8 +58,8 @@ const KEY_TYPES: &[(&[u8], (u32, Size))] = &[
     (b"\x2a\x86\x48\x86\xf7\x0d\x01\x03\x01", (9, Size::Prime)),
 ];
 
-/// The content octets of the identifiers of curves, with the curve's number and the size of its field (RFC 5480 2.1.1.1;
-/// SEC 2 A.2; RFC 5639 4.1).
+/// The content octets of the identifiers of curves, with the curve's number and the size of its field (RFC 5480
+/// 2.1.1.1; SEC 2 A.2; RFC 5639 4.1).
 const CURVES: &[(&[u8], (u32, u32))] = &[
     (b"\x2a\x86\x48\xce\x3d\x03\x01\x01", (1, 192)),
     (b"\x2b\x81\x04\x00\x21", (2, 224)),

@@ -1,5 +1,5 @@
-//! Summaries of certificates, CRLs, CSRs and keys: a line for each field with its name and value, indented by two columns
-//! for each structure around it. Secret numbers of private keys are never written. Nothing allocates.
+//! Summaries of certificates, CRLs, CSRs and keys: a line for each field with its name and value, indented by two
+//! columns for each structure around it. Secret numbers of private keys are never written. Nothing allocates.
 #![tactic(auto)]
 
 mod algorithm;

@@ -102,7 +102,8 @@ pub data Change : Type 0 where
 -- The changes turn the old elements into the new ones. Those that are kept are the same.
 pub data AreChanges : List NamedElement → List NamedElement → List Change → Type 0 where
   none : AreChanges [] [] []
-  kept : {es fs : List NamedElement} {cs : List Change} (e f : NamedElement) → compared e ≡ compared f → AreChanges es fs cs
+  kept : {es fs : List NamedElement} {cs : List Change} (e f : NamedElement) → compared e ≡ compared f
+      → AreChanges es fs cs
       → AreChanges (e ∷ es) (f ∷ fs) cs
   removed : {es fs : List NamedElement} {cs : List Change} (e : NamedElement) → AreChanges es fs cs
       → AreChanges (e ∷ es) fs (Removed e ∷ cs)

@@ -44,8 +44,8 @@ pub enum Difference {
     Different,
 }
 
-/// Compares the elements of two inputs, and writes those that differ as lines of a tree: after `-` one of the old input,
-/// after `+` one of the new. None if an input isn't valid or doesn't have the type of the options, which is reported.
+/// Compares the elements of two inputs, and writes those that differ as lines of a tree: after `-` one of the old
+/// input, after `+` one of the new. None if an input isn't valid or doesn't have the type of the options, which is reported.
 pub fn compare<W: Write, X: Write>(
     alloc: Global,
     options: &Options<'_>,

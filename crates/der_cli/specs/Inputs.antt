@@ -79,7 +79,8 @@ pub data ReadsInput (o : Options) (name i : List ℕ) (old new : Option (List �
 pub data RefusesBlock (o : Options) (lines : List ℕ) : Type 0 where
   encrypted : IsEncrypted lines → RefusesBlock o lines
   no_base64 : (e : FormError) → IsBase64Error lines e → RefusesBlock o lines
-  refused : (w : List ℕ) (old new : Option (List ℕ)) → base64_decode_of standard_pad_indifferent (characters_of lines) ≡ Ok w
+  refused : (w : List ℕ) (old new : Option (List ℕ))
+      → base64_decode_of standard_pad_indifferent (characters_of lines) ≡ Ok w
       → IsRefusedBy o.action o w old new → RefusesBlock o lines
 
 -- the rest of a text after n blocks

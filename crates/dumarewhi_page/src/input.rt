@@ -1,6 +1,7 @@
 //! Calls that detect the form of an input and decode it.
 ghost use Rattle.std.specs.Prelude.{length};
-ghost use Rattle.dumarewhi_page.specs.Content.Inputs.{AnswersBase64, AnswersBlock, AnswersDigits, AnswersForm, FindsBlock, Found};
+ghost use Rattle.dumarewhi_page.specs.Content.Inputs.{AnswersBase64, AnswersBlock, AnswersDigits, AnswersForm};
+ghost use Rattle.dumarewhi_page.specs.Content.Inputs.{FindsBlock, Found};
 
 use crate::content::input::{PageBlock, answer, number_of, put_block};
 use crate::content::room::put;

@@ -1,7 +1,7 @@
 //! Serializes the object of an element, member after member. A derived impl would promise nothing of what it sends.
 ghost use Rattle.std.specs.Prelude.{OnOk};
-ghost use Rattle.text_json.specs.Sent.{SendsHeader, SendsIdentifier, SendsMember, SendsMembers, SendsNames, SendsOrigin};
-ghost use Rattle.text_json.specs.Sent.{SendsRemarks, SendsSome, SendsValueOf};
+ghost use Rattle.text_json.specs.Sent.{SendsHeader, SendsIdentifier, SendsMember, SendsMembers, SendsNames};
+ghost use Rattle.text_json.specs.Sent.{SendsOrigin, SendsRemarks, SendsSome, SendsValueOf};
 
 use crate::object::Object;
 use serde::{Described, Serialize, Serializer};

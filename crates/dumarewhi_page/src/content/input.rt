@@ -1,7 +1,8 @@
 //! The form of an input, and its octets.
 ghost use Rattle.std.specs.Prelude.{◌≡◌, length};
 ghost use Rattle.der_input.specs.Blocks.{label_of};
-ghost use Rattle.dumarewhi_page.specs.Content.Inputs.{Answers, AnswersBlock, NumbersForm, SkipsBlock, WritesBlock, error_number, form_number};
+ghost use Rattle.dumarewhi_page.specs.Content.Inputs.{Answers, AnswersBlock, NumbersForm, SkipsBlock};
+ghost use Rattle.dumarewhi_page.specs.Content.Inputs.{WritesBlock, error_number, form_number};
 
 use der_input::{Block, Form, FormError, first_label};
 
