@@ -1,4 +1,8 @@
 //! The origin of octets.
+ghost use Rattle.std.specs.Option.{option_map_or};
+ghost use Rattle.std.specs.Prelude.{◌≡◌, codes, false};
+ghost use Rattle.std.specs.Str.{bytes_eq};
+
 use crate::name::Name;
 use std::fmt;
 
@@ -32,7 +36,9 @@ impl Origin<'_> {
     }
 
     /// Whether OpenSSL's trust settings may follow a certificate, by the label of the block.
-    pub fn is_trusted(&self) -> bool {
+    pub fn is_trusted(&self) -> bool
+        ensures { result ≡ option_map_or (λ b. bytes_eq b.shown.now (codes "TRUSTED CERTIFICATE")) self.now.block false }
+    {
         match self.block {
             Some(block) => block.shown == "TRUSTED CERTIFICATE",
             None => false,
