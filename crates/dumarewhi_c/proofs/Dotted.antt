@@ -64,7 +64,7 @@ pub digits_utf8 : (w : List ℕ) → list_all is_ascii_digit w ≡ true → IsUt
 digits_utf8 w h = IsUtf8-from_ascii w (ascii w h)
 
 -- whether the parts of a text are arcs, and what they make if they are
-abbrev pub made : Bool → Bool → Bool → Bool → Option (List ℕ) → Option (List ℕ)
+abbrev made : Bool → Bool → Bool → Bool → Option (List ℕ) → Option (List ℕ)
 made p q r h v = if (p && (q && r)) then (if h then v else None) else None
 
 push : (t : Bool) (x : List ℕ) → option_and_then octets_of_arcs (if t then Some x else None) ≡ (if t then octets_of_arcs x else None)

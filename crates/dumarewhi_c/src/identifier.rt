@@ -8,7 +8,7 @@ ghost use Rattle.c_values.specs.Texts.{PutsText, ReturnsText};
 ghost use Rattle.der_base.specs.Octets.{groups};
 ghost use Rattle.der_base.specs.OidArcs.{components};
 ghost use Rattle.dumarewhi_c.specs.DottedTexts.{components_left, groups_if_arc, have_subidentifier, is_arc};
-ghost use Rattle.dumarewhi_c.specs.DottedTexts.{octets_of_text};
+ghost use Rattle.dumarewhi_c.specs.DottedTexts.{TextsComeBack, octets_of_text};
 
 use c_values::errors::refusal_number;
 use c_values::text::put_text;
@@ -149,3 +149,8 @@ fn put_subidentifier(octets: &mut [u8], at: usize, number: u128) -> usize
     }
     put_text(octets, at, &last_groups[begin..])
 }
+
+/// The octets that `dm_oid_from_text` writes have the arcs of the text, by `dm_read_oid`.
+pub fn texts_come_back()
+    ensures { TextsComeBack }
+{}
