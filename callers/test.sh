@@ -175,7 +175,7 @@ run_reply() { "$1" < c/examples/request.snmp > "$room/reply" && cmp "$room/reply
 
 run_c() {
     for name in first tree certificate snmp count layout rows errors tables csr snmp_reply writer trees agreement \
-        certificate_rows openssl_fields openssl_extensions fields private_key pem found keys; do
+        certificate_rows openssl_fields openssl_extensions fields private_key pem found keys identifiers; do
         says "$name.c compiles" compile $name $name
     done
     says "the header is C99 and C++11" run_header
@@ -184,6 +184,7 @@ run_c() {
     for name in rows errors stack fields found; do says "$name" "$room/$name"; done
     says "layout" "$room/layout" c/layout.rows
     says "keys" "$room/keys" c/keys.rows
+    says "identifiers" "$room/identifiers" c/identifiers.rows
     says "writer" "$room/writer" "$room"
     says "rows of the library's tests" "$room/tables" ../tests/rows*/data/*/*.rows
     says "rows about certificates" "$room/certificate_rows" ../tests/rows/data/certificates/*.rows \

@@ -133,6 +133,7 @@ static void read_content(const uint8_t *content, size_t size) {
     dm_read_u64(content, size, &u64);
     dm_read_bool(content, size, &byte);
     dm_read_oid(content, size, octets, MOST_OCTETS, &needed);
+    dm_oid_from_text((const char *)content, size, octets, MOST_OCTETS, &needed);
     for (uint32_t number = 12; number <= 30; number++) {
         dm_check_text(number, content, size);
         dm_read_time(number, content, size, &time);

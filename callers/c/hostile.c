@@ -35,6 +35,7 @@ static void test_values(const uint8_t *content, size_t length, uint32_t number) 
     (void)dm_read_u64(content, length, &u);
     (void)dm_read_bool(content, length, &truth);
     (void)dm_read_oid(content, length, text, below(sizeof text + 1), &needed);
+    (void)dm_oid_from_text((const char *)content, length, text, below(sizeof text + 1), &needed);
     (void)dm_check_text(number, content, length);
     (void)dm_read_time(23 + (uint32_t)below(2), content, length, &time);
 }

@@ -632,6 +632,7 @@ static void test_none(void) {
     expect(dm_write_der(NULL, 0, NULL, 0, &outcome) == DM_OK && outcome.length == 0, "write", "NULL");
     expect(dm_read_u64(NULL, 0, &number) == 0 && number == 0, "read_u64", "NULL");
     expect(dm_read_oid(NULL, 0, NULL, 0, &length) == 0 && length == 0, "read_oid", "NULL");
+    expect(dm_oid_from_text(NULL, 0, NULL, 0, &length) == DM_ERROR_WRONG_VALUE && length == 0, "oid_from_text", "NULL");
     expect(dm_error_text(0, NULL, 0) == 8, "error_text", "NULL");
     expect(dm_read_certificate(NULL, 0, &certificate, &fault) == DM_INCOMPLETE && fault.needed == 1, "certificate",
            "NULL");

@@ -14,6 +14,16 @@ int LLVMFuzzerTestOneInput(const uint8_t *input, size_t length) {
         size_t room = needed < 8 ? needed : 8;
         expect(dm_read_oid(input, length, again, room, &same) == 0 && same == needed);
         expect(memcmp(text, again, room) == 0);
+        if (needed > 0 && needed <= sizeof text) {
+            expect(dm_oid_from_text((const char *)text, needed, again, sizeof again, &same) == 0 && same <= length);
+        }
+    } else {
+        expect(needed == 7);
+    }
+    needed = 7;
+    if (dm_oid_from_text((const char *)input, length, again, sizeof again, &needed) == 0) {
+        expect(needed < length);
+        if (needed <= sizeof again) expect(dm_read_oid(again, needed, text, sizeof text, &same) == 0 && same <= length);
     } else {
         expect(needed == 7);
     }

@@ -357,6 +357,13 @@ uint32_t dm_read_bool(const uint8_t *content, size_t length, uint8_t *value);
  * of 2^128 or more, is an error. */
 uint32_t dm_read_oid(const uint8_t *content, size_t length, uint8_t *text, size_t room, size_t *needed);
 
+/* Writes the content octets of the OBJECT IDENTIFIER with a dotted text, cut to `room` octets, and returns 0. `needed`
+ * is the length of all of them. Any other text is DM_ERROR_WRONG_VALUE, and nothing is written.
+ *
+ * A text has at least two arcs in decimal digits, with a point between them; leading zeros are accepted. The first arc
+ * is 0, 1 or 2, the second is below 40 after 0 or 1 (8.19.4), and each subidentifier is below 2^128. */
+uint32_t dm_oid_from_text(const char *text, size_t length, uint8_t *octets, size_t room, size_t *needed);
+
 /* The dotted texts of some OBJECT IDENTIFIERs: types of attributes (RFC 5280 A, RFC 4519), keys (RFC 8017, RFC 5480,
  * RFC 8410), signatures (RFC 8017, RFC 5758), purposes (RFC 5280 4.2.1.12), access to information (4.2.2.1), anyPolicy
  * (4.2.1.4), and attributes of requests (RFC 2985). */

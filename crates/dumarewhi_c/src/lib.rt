@@ -9,6 +9,7 @@ pub mod directory;
 pub mod error_text;
 pub mod extension;
 pub mod fields;
+pub mod identifier;
 pub mod key;
 pub mod key_kind;
 pub mod lists;

@@ -424,6 +424,8 @@ extern "C" {
     pub(crate) fn dm_read_u64(content: *const u8, length: usize, value: *mut u64) -> u32;
     pub(crate) fn dm_read_bool(content: *const u8, length: usize, value: *mut u8) -> u32;
     pub(crate) fn dm_read_oid(content: *const u8, length: usize, text: *mut u8, room: usize, needed: *mut usize) -> u32;
+    pub(crate) fn dm_oid_from_text(text: *const u8, length: usize, octets: *mut u8, room: usize,
+        needed: *mut usize) -> u32;
     pub(crate) fn dm_check_text(number: u32, content: *const u8, length: usize) -> u32;
     pub(crate) fn dm_read_time(number: u32, content: *const u8, length: usize, time: *mut TimeFields) -> u32;
     pub(crate) fn dm_finish(writer: *const WriterState, length: *mut usize) -> u32;

@@ -1,0 +1,3 @@
+pub mod ArcsBack
+pub mod Dotted
+pub mod Points
