@@ -1,6 +1,7 @@
 //! Errors of modules.
-ghost use Rattle.std.specs.Prelude.{◌≡◌, ◌+◌, ◌==◌, count_by, not, take};
+ghost use Rattle.std.specs.Prelude.{◌≡◌, ◌+◌, ◌==◌, count_by, not};
 ghost use Rattle.std.specs.List.{suffix_len};
+ghost use Rattle.asn1_modules.specs.Places.{IsIn};
 
 use crate::token::TokenKind;
 use std::alloc::{AllocError, AllocFailed};
@@ -144,11 +145,15 @@ impl<T: Drop> From<AllocFailed<T>> for Fault {
 }
 
 /// The error with the line and column of a fault.
-pub(crate) fn located(text: &[u8], fault: Fault) -> ModuleError {
-    let before = &text[..fault.offset.min(text.len())];
+pub(crate) fn located(text: &[u8], fault: Fault) -> ModuleError
+    ensures place { IsIn text.now result }
+    ensures problem { result.problem ≡ fault.problem }
+{
+    let offset = fault.offset.min(text.len());
+    let before = &text[..offset];
     ModuleError {
         problem: fault.problem,
-        offset: before.len(),
+        offset,
         line: line_after(before),
         column: column_after(before),
     }

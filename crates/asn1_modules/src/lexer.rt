@@ -1,10 +1,11 @@
 //! Splits a text into lexical items (X.680 12).
-ghost use Rattle.std.specs.Prelude.{◌≡◌, ◌+◌, ◌<◌, ◌≤◌, IfOk, IfSome, length};
+ghost use Rattle.std.specs.Prelude.{◌≡◌, ℕ, ◌+◌, ◌<◌, ◌≤◌, List, IfOk, IfSome, OnOk, drop, length, take};
+ghost use Rattle.asn1_modules.specs.Items.{Lie};
 
 use crate::fault::{Fault, Problem};
 use crate::token::{Token, TokenKind};
 use crate::words::{first_symbol, word_kind};
-use std::alloc::Global;
+use std::alloc::{AllocError, Global};
 
 /// A lexical item, or white space or a comment, which have no kind, and the number of its octets.
 #[derive(Clone, Copy)]
@@ -14,7 +15,9 @@ pub(crate) struct Piece {
 }
 
 /// The lexical items of a text.
-pub(crate) fn tokens_of<'a>(alloc: Global, text: &'a [u8]) -> Result<Vec<Token<'a>>, Fault> {
+pub(crate) fn tokens_of<'a>(alloc: Global, text: &'a [u8]) -> Result<Vec<Token<'a>>, Fault>
+    ensures { IfOk result (λ v. Lie text.now 0 v.items (length text.now)) }
+{
     let mut tokens = Vec::new(alloc);
     let mut rest = text;
     while let Some(first) = rest.first() {
@@ -23,13 +26,28 @@ pub(crate) fn tokens_of<'a>(alloc: Global, text: &'a [u8]) -> Result<Vec<Token<'
             Ok(piece) => piece,
             Err(problem) => return Err(Fault { problem, offset }),
         };
-        let (text, after) = rest.split_at(piece.length);
-        if let Some(kind) = piece.kind {
-            tokens.push(Token { kind, text, offset })?;
-        }
+        let (item, after) = rest.split_at(piece.length);
+        push_item(&mut tokens, piece.kind, item, offset)?;
         rest = after;
     }
     Ok(tokens)
+}
+
+/// Adds a lexical item, if it has a kind.
+fn push_item<'a>(
+    tokens: &mut Vec<Token<'a>>,
+    kind: Option<TokenKind>,
+    text: &'a [u8],
+    offset: usize,
+) -> Result<(), AllocError>
+    ensures { (whole : List ℕ) → Lie whole 0 tokens.old.items offset
+        → text.now ≡ take (length text.now) (drop offset whole)
+        → OnOk result (Lie whole 0 tokens.new.items (offset + length text.now)) }
+{
+    if let Some(kind) = kind {
+        tokens.push(Token { kind, text, offset })?;
+    }
+    Ok(())
 }
 
 /// What a text begins with.

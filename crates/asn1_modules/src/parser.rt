@@ -1,4 +1,7 @@
 //! Reads lexical items into a syntax tree.
+ghost use Rattle.std.specs.Prelude.{IfErr};
+ghost use Rattle.asn1_modules.specs.Places.{IsIn};
+
 mod cursor;
 mod groups;
 mod lists;
@@ -20,7 +23,9 @@ use std::alloc::Global;
 /// let syntax = read_modules(alloc, b"Example DEFINITIONS ::= BEGIN Age ::= INTEGER END")?;
 /// assert_eq!(syntax.assignments[0].name, b"Age");
 /// ```
-pub fn read_modules<'a>(alloc: Global, text: &'a [u8]) -> Result<Syntax<'a>, ModuleError> {
+pub fn read_modules<'a>(alloc: Global, text: &'a [u8]) -> Result<Syntax<'a>, ModuleError>
+    ensures { IfErr result (IsIn text.now) }
+{
     match syntax_of(alloc, text) {
         Ok(syntax) => Ok(syntax),
         Err(fault) => Err(located(text, fault)),
