@@ -40,8 +40,17 @@ pub struct Module<'a> {
     pub tags: TagDefault,
     /// Whether the module says `EXTENSIBILITY IMPLIED` (13.4).
     pub extensible: bool,
-    /// The names that it exports, without `EXPORTS`. Empty if it exports all (13.8).
-    pub exports: Span,
+    /// What it exports (13.8).
+    pub exports: Exports,
+}
+
+/// What a module exports (13.8).
+#[derive(Clone, Copy, Debug, PartialEq)]
+pub enum Exports {
+    /// All names, as `EXPORTS ALL;` or nothing says.
+    All,
+    /// The names between `EXPORTS` and the semicolon.
+    Names(Span),
 }
 
 /// How tags are applied in a module (13.2, 31.2).

@@ -9,4 +9,6 @@ mod damage;
 #[cfg(test)]
 mod errors;
 #[cfg(test)]
+mod summaries;
+#[cfg(test)]
 mod trees;

@@ -1,7 +1,7 @@
 //! A syntax tree as lines of text.
 
 use asn1_modules::{
-    Assignment, AssignmentKind, Import, Kind, Module, ModuleError, NamedValue, Node, Number, Presence, Span, Syntax,
+    Assignment, AssignmentKind, Exports, Import, Kind, Module, ModuleError, NamedValue, Node, Number, Presence, Span, Syntax,
     Tag, TagNumber, Tagging, ValueKind, read_modules,
 };
 use std::alloc::{AllocError, Global};
@@ -43,9 +43,9 @@ fn push_module(
     if module.extensible {
         lines.push_str(" extensible")?;
     }
-    if !module.exports.is_empty() {
+    if let Exports::Names(names) = module.exports {
         lines.push_str(" exports")?;
-        push_span(lines, syntax, module.exports)?;
+        push_span(lines, syntax, names)?;
     }
     lines.push_str("\n")
 }

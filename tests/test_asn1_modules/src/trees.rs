@@ -138,7 +138,7 @@ CountryName ::= [APPLICATION 1] CHOICE { x121-dcc-code NumericString (SIZE (ub-d
 EDIPartyName ::= SEQUENCE { nameAssigner [0] DirectoryString OPTIONAL }
 BuiltIn ::= SET { empty SEQUENCE {}, nothing NULL }
 END
-PKIX1Implicit88 DEFINITIONS IMPLICIT TAGS ::= BEGIN
+PKIX1Implicit88 DEFINITIONS IMPLICIT TAGS ::= BEGIN EXPORTS;
 IMPORTS id-pe, Attribute, X520name FROM PKIX1Explicit88 { iso(1) } ORAddress FROM Other;
 id-ce OBJECT IDENTIFIER ::= {joint-iso-ccitt(2) ds(5) 29}
 END";
@@ -193,7 +193,7 @@ BuiltIn = type
   Set
     empty Sequence
     nothing Null
-PKIX1Implicit88 Implicit
+PKIX1Implicit88 Implicit exports
 import id-pe from PKIX1Explicit88 { iso(1) }
 import Attribute from PKIX1Explicit88 { iso(1) }
 import X520name from PKIX1Explicit88 { iso(1) }

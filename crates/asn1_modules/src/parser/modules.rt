@@ -5,7 +5,7 @@ ghost use Rattle.asn1_modules.specs.Progress.{Advances, NeverBack};
 use crate::fault::{Expected, Fault};
 use crate::parser::Parser;
 use crate::parser::cursor::Cursor;
-use crate::syntax::{Assignment, AssignmentKind, Import, Module, Source, Span};
+use crate::syntax::{Assignment, AssignmentKind, Exports, Import, Module, Source, Span};
 use crate::token::{Keyword, Symbol, Token, TokenKind};
 
 impl<'t, 'a> Parser<'t, 'a> {
@@ -206,23 +206,23 @@ impl<'t, 'a> Cursor<'t, 'a> {
     }
 
     /// Reads the names that are exported, if they stand here (13.1).
-    fn exports(&mut self) -> Result<Span, Fault>
+    fn exports(&mut self) -> Result<Exports, Fault>
         ensures { OnOk result (NeverBack self.old self.new) }
     {
         if !self.take_keyword(Keyword::Exports) {
-            return Ok(Span::EMPTY);
+            return Ok(Exports::All);
         }
         if self.take_keyword(Keyword::All) {
             self.expect_symbol(Symbol::Semicolon)?;
-            return Ok(Span::EMPTY);
+            return Ok(Exports::All);
         }
         let start = self.offset();
         while !self.is_at(Symbol::Semicolon) {
             self.exported_name()?;
         }
-        let exports = self.span_from(start);
+        let names = self.span_from(start);
         self.expect_symbol(Symbol::Semicolon)?;
-        Ok(exports)
+        Ok(Exports::Names(names))
     }
 
     /// Reads a name that is exported, its empty braces if it has parameters, and a comma if more follow.
