@@ -1,5 +1,8 @@
 //! The syntax tree of modules.
+ghost use Rattle.std.specs.Prelude.{◌-◌, ◌≡◌, ◌≤◌, drop, length, take};
+
 use crate::token::SimpleType;
+use std::str;
 
 /// What a text of modules says.
 #[derive(Drop)]
@@ -261,6 +264,45 @@ pub enum Tagging {
     Implicit,
 }
 
+impl<'a> Syntax<'a> {
+    /// The nodes inside the node with this index, in the order of the text. Those one deeper than it are directly
+    /// inside it.
+    pub fn inside<'s>(&'s self, index: usize) -> &'s [Node<'a>] {
+        nodes_inside(&self.nodes, index)
+    }
+}
+
+/// The nodes inside the one with this index.
+fn nodes_inside<'s, 'a>(nodes: &'s [Node<'a>], index: usize) -> &'s [Node<'a>] {
+    if index >= nodes.len() {
+        return &nodes[..0];
+    }
+    let behind = &nodes[index + 1..];
+    &behind[..deeper_count(nodes[index].depth, behind)]
+}
+
+/// The number of nodes before the first one that isn't deeper.
+fn deeper_count(depth: usize, nodes: &[Node<'_>]) -> usize
+    ensures { result ≤ length nodes.now }
+{
+    nodes.iter().take_while(|node| node.depth > depth).count()
+}
+
+impl Number<'_> {
+    /// The number, if it is above -2^63 and below 2^63.
+    pub fn to_i64(self) -> Option<i64> {
+        let Ok(digits) = str::from_utf8(self.digits) else {
+            return None;
+        };
+        let size: i64 = digits.parse().ok()?;
+        if self.negative {
+            size.checked_neg()
+        } else {
+            Some(size)
+        }
+    }
+}
+
 impl Span {
     /// No part of a text.
     pub const EMPTY: Span = Span { start: 0, end: 0 };
@@ -271,7 +313,13 @@ impl Span {
     }
 
     /// The part of the text, or nothing if it has no such part.
-    pub fn of(self, text: &[u8]) -> &[u8] {
-        text.get(self.start..self.end).unwrap_or(&[])
+    pub fn of(self, text: &[u8]) -> &[u8]
+        ensures part { self.start ≤ self.end → self.end ≤ length text.now
+            → result.now ≡ take (self.end - self.start) (drop self.start text.now) }
+    {
+        match text.get(self.start..self.end) {
+            Some(part) => part,
+            None => &[],
+        }
     }
 }

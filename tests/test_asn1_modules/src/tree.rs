@@ -1,8 +1,8 @@
 //! A syntax tree as lines of text.
 
 use asn1_modules::{
-    Assignment, AssignmentKind, Exports, Import, Kind, Module, ModuleError, NamedValue, Node, Number, Presence, Span, Syntax,
-    Tag, TagNumber, Tagging, ValueKind, read_modules,
+    Assignment, AssignmentKind, Exports, Import, Kind, Module, ModuleError, NamedValue, Node, Number, Presence, Span,
+    Syntax, Tag, TagNumber, Tagging, ValueKind, read_modules,
 };
 use std::alloc::{AllocError, Global};
 

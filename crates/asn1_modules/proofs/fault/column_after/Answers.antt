@@ -1,4 +1,5 @@
-use Rattle.std.proofs.Common.{◌≡◌, ℕ, ◌+◌, Bool, true, false, List, [], ◌∷◌, ◌++◌, length, ap, ◌∙◌, arith, length-append}
+use Rattle.std.proofs.Common.{◌≡◌, ℕ, ◌+◌, Bool, true, false, List, [], ◌∷◌, ◌++◌, length, ap, ◌∙◌, arith}
+use Rattle.std.proofs.Common.{length-append}
 use Rattle.std.specs.Prelude.{◌==◌, cond, not}
 use Rattle.std.specs.List.{prefix_len, suffix_len}
 use Rattle.std.proofs.lemmas.Bool.Decides.{nat_tests}
@@ -31,5 +32,6 @@ returns-then-last-eq10 c =
     let before = c.in-Some.before.now in
     let off : on_line last ≡ false = grind (arith, nat_tests) in
     let none : suffix_len on_line c.loop-last.rest.now ≡ 0 =
-    last_one c.loop-last.rest.now before last c.in-Some.ensures.cases.0 ∙ ap (λ b. cond b (1 + suffix_len on_line before) 0) off in
+    last_one c.loop-last.rest.now before last c.in-Some.ensures.cases.0
+    ∙ ap (λ b. cond b (1 + suffix_len on_line before) 0) off in
     omega (arith, none, c.loop-last.invariant.column)

@@ -1,5 +1,4 @@
 use Rattle.std.proofs.Common.{◌≡◌, ◌+◌, ◌-◌, ◌≤◌, length, take, drop, sym, ap, ◌∙◌, arith, drop-drop}
-use Rattle.asn1_modules.specs.Items.{Lie}
 use Rattle.asn1_modules.proofs.Laid.{lie_more}
 use Rattle.asn1_modules.proofs.lexer.tokens_of.Goals as goal
 
@@ -20,6 +19,7 @@ loop-first-preserved c =
     let reached : before + n ≡ length text - length after = omega (arith, few, left) in
     record {
       few = omega (arith, few, left);
-      part = c.split_at.ensures.back ∙ ap (drop n) c.loop-first.invariant.part ∙ drop-drop n before text ∙ ap (λ k. drop k text) reached;
+      part = c.split_at.ensures.back ∙ ap (drop n) c.loop-first.invariant.part ∙ drop-drop n before text
+          ∙ ap (λ k. drop k text) reached;
       laid = lie_more text 0 _ (before + length item) (length text - length after) laid (omega (arith, size, reached));
     }
