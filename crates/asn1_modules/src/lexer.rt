@@ -64,7 +64,18 @@ fn first_piece(first: u8, text: &[u8]) -> Result<Piece, Problem>
         b'\'' => digit_string(text),
         b'&' => field_reference(text),
         b'-' | b'/' => comment_or_symbol(first, text),
+        0xc2 => no_break_space(text),
         _ => symbol(first, text),
+    }
+}
+
+/// NO-BREAK SPACE, which is white space (12.1.6), in UTF-8.
+fn no_break_space(text: &[u8]) -> Result<Piece, Problem>
+    ensures { IfOk result (λ p. (0 < p.length) × (p.length ≤ length text.now)) }
+{
+    match text {
+        [0xc2, 0xa0, ..] => Ok(space(2)),
+        _ => Err(Problem::Octet(0xc2)),
     }
 }
 

@@ -378,7 +378,7 @@ n = text p { 5 }
 
 #[test]
 fn nodes_inside(rt: HostRuntime) {
-    let text = "M DEFINITIONS ::= BEGIN A ::= SET { a [0] NULL, b NULL } B ::= NULL C ::= INTEGER { c(-12) } END";
+    let text = "M DEFINITIONS ::= BEGIN\u{a0}A ::= SET { a [0] NULL, b NULL } B ::= NULL C ::= INTEGER { c(-12) } END";
     match read_modules(rt.alloc(), text.as_bytes()) {
         Ok(syntax) => {
             assert_eq!(rt; syntax.inside(0).len(), 3);
