@@ -1,0 +1,8 @@
+use Rattle.asn1_modules.specs.Progress.{NeverBack}
+use Rattle.asn1_modules.proofs.parser.cursor.Cursor.exports.Given as goal
+
+abbrev pub invariant-loop-self : goal.invariant-loop-self
+invariant-loop-self l = NeverBack l.fn.self l.self
+
+abbrev pub decreases-loop-self : goal.decreases-loop-self
+decreases-loop-self l = l.self.left
