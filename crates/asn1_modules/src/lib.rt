@@ -7,14 +7,12 @@
 mod fault;
 mod lexer;
 mod parser;
-mod summary;
 mod syntax;
 mod token;
 mod words;
 
 pub use fault::{Expected, Found, ModuleError, Problem};
 pub use parser::read_modules;
-pub use summary::Summary;
 pub use syntax::{
     Arc, Assignment, AssignmentKind, Exports, Import, Kind, Module, NamedValue, Node, Number,
     Presence, Source, Span, Syntax, Tag, TagClass, TagDefault, TagNumber, Tagging, ValueKind,

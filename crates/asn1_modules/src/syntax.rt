@@ -1,8 +1,7 @@
 //! The syntax tree of modules.
-ghost use Rattle.std.specs.Prelude.{◌-◌, ◌≡◌, ◌≤◌, drop, length, take};
+ghost use Rattle.std.specs.Prelude.{◌-◌, ◌≡◌, ◌≤◌, ◌↔◌, IsTrue, drop, length, take};
 
 use crate::token::SimpleType;
-use std::str;
 
 /// What a text of modules says.
 #[derive(Drop)]
@@ -264,51 +263,14 @@ pub enum Tagging {
     Implicit,
 }
 
-impl<'a> Syntax<'a> {
-    /// The nodes inside the node with this index, in the order of the text. Those one deeper than it are directly
-    /// inside it.
-    pub fn inside<'s>(&'s self, index: usize) -> &'s [Node<'a>] {
-        nodes_inside(&self.nodes, index)
-    }
-}
-
-/// The nodes inside the one with this index.
-fn nodes_inside<'s, 'a>(nodes: &'s [Node<'a>], index: usize) -> &'s [Node<'a>] {
-    if index >= nodes.len() {
-        return &nodes[..0];
-    }
-    let behind = &nodes[index + 1..];
-    &behind[..deeper_count(nodes[index].depth, behind)]
-}
-
-/// The number of nodes before the first one that isn't deeper.
-fn deeper_count(depth: usize, nodes: &[Node<'_>]) -> usize
-    ensures { result ≤ length nodes.now }
-{
-    nodes.iter().take_while(|node| node.depth > depth).count()
-}
-
-impl Number<'_> {
-    /// The number, if it is above -2^63 and below 2^63.
-    pub fn to_i64(self) -> Option<i64> {
-        let Ok(digits) = str::from_utf8(self.digits) else {
-            return None;
-        };
-        let size: i64 = digits.parse().ok()?;
-        if self.negative {
-            size.checked_neg()
-        } else {
-            Some(size)
-        }
-    }
-}
-
 impl Span {
     /// No part of a text.
     pub const EMPTY: Span = Span { start: 0, end: 0 };
 
     /// Returns whether nothing stands there.
-    pub fn is_empty(self) -> bool {
+    pub fn is_empty(self) -> bool
+        ensures { IsTrue result ↔ self.end ≤ self.start }
+    {
         self.end <= self.start
     }
 

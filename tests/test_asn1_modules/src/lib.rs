@@ -9,6 +9,4 @@ mod damage;
 #[cfg(test)]
 mod errors;
 #[cfg(test)]
-mod summaries;
-#[cfg(test)]
 mod trees;

@@ -1,6 +1,6 @@
 //! What the tree of a module is.
 use crate::tree::tree_of;
-use asn1_modules::{Kind, NamedValue, Node, read_modules};
+use asn1_modules::read_modules;
 use std::alloc::AllocError;
 
 #[test]
@@ -377,24 +377,10 @@ n = text p { 5 }
 }
 
 #[test]
-fn nodes_inside(rt: HostRuntime) {
-    let text = "M DEFINITIONS ::= BEGIN\u{a0}A ::= SET { a [0] NULL, b NULL } B ::= NULL C ::= INTEGER { c(-12) } END";
+fn no_break_space(rt: HostRuntime) {
+    let text = "M DEFINITIONS ::= BEGIN\u{a0}A ::= NULL END";
     match read_modules(rt.alloc(), text.as_bytes()) {
-        Ok(syntax) => {
-            assert_eq!(rt; syntax.inside(0).len(), 3);
-            assert_eq!(rt; syntax.inside(1).len(), 1);
-            assert_eq!(rt; syntax.inside(2).len(), 0);
-            assert_eq!(rt; syntax.inside(4).len(), 0);
-            assert_eq!(rt; syntax.inside(5).len(), 1);
-            assert_eq!(rt; syntax.inside(6).len(), 0);
-            assert_eq!(rt; syntax.inside(usize::MAX).len(), 0);
-            match syntax.inside(5).first() {
-                Some(Node { kind: Kind::Named(NamedValue::Number(number)), .. }) => {
-                    assert_eq!(rt; number.to_i64(), Some(-12));
-                }
-                _ => panic!(rt; "no named number"),
-            }
-        }
+        Ok(syntax) => assert_eq!(rt; syntax.assignments.len(), 1),
         Err(error) => panic!(rt; "{error}"),
     }
 }
