@@ -1,5 +1,5 @@
 //! A cursor over lexical items.
-ghost use Rattle.std.specs.Prelude.{OnOk, MatchOption, MatchBool};
+ghost use Rattle.std.specs.Prelude.{◌≡◌, MatchBool, MatchOption, OnOk, length};
 ghost use Rattle.asn1_modules.specs.Progress.{Advances, NeverBack};
 
 use crate::fault::{Expected, Fault, Found, Problem};
@@ -19,7 +19,12 @@ pub(crate) struct Cursor<'t, 'a> {
 
 impl<'t, 'a> Cursor<'t, 'a> {
     /// A cursor at the first lexical item of a text of this length.
-    pub fn new(tokens: &'t [Token<'a>], end: usize) -> Cursor<'t, 'a> {
+    pub fn new(tokens: &'t [Token<'a>], end: usize) -> Cursor<'t, 'a>
+        ensures tokens { result.tokens.now ≡ tokens.now }
+        ensures left { result.left ≡ length tokens.now }
+        ensures read { result.read ≡ 0 }
+        ensures end { result.end ≡ end }
+    {
         Cursor {
             tokens,
             left: tokens.len(),

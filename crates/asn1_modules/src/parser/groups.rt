@@ -1,5 +1,5 @@
 //! Parts of the text that are kept as they are.
-ghost use Rattle.std.specs.Prelude.{OnOk};
+ghost use Rattle.std.specs.Prelude.{◌≡◌, OnOk};
 ghost use Rattle.asn1_modules.specs.Progress.{Advances, NeverBack};
 
 use crate::fault::{Expected, Fault};
@@ -9,7 +9,10 @@ use crate::token::{Keyword, Symbol, TokenKind};
 
 impl<'t, 'a> Cursor<'t, 'a> {
     /// The part of the text from an offset to the last item that was read.
-    pub fn span_from(&self, start: usize) -> Span {
+    pub fn span_from(&self, start: usize) -> Span
+        ensures start { result.start ≡ start }
+        ensures end { result.end ≡ self.now.read }
+    {
         Span {
             start,
             end: self.read,
