@@ -483,6 +483,24 @@ def test_usage_without_a_name() -> None:
     assert _extensions.read_key_usage(octets_of("03 03 05 80 20")) == x509.KeyUsage.DIGITAL_SIGNATURE
 
 
+def test_usages(tmp_path: Path) -> None:
+    """Each by its name in openssl."""
+    names = {
+        "digitalSignature": x509.KeyUsage.DIGITAL_SIGNATURE,
+        "nonRepudiation": x509.KeyUsage.CONTENT_COMMITMENT,
+        "keyEncipherment": x509.KeyUsage.KEY_ENCIPHERMENT,
+        "dataEncipherment": x509.KeyUsage.DATA_ENCIPHERMENT,
+        "keyAgreement": x509.KeyUsage.KEY_AGREEMENT,
+        "keyCertSign": x509.KeyUsage.KEY_CERT_SIGN,
+        "cRLSign": x509.KeyUsage.CRL_SIGN,
+        "encipherOnly": x509.KeyUsage.ENCIPHER_ONLY,
+        "decipherOnly": x509.KeyUsage.DECIPHER_ONLY,
+    }
+    for name, usage in names.items():
+        octets = made(tmp_path, "-subj", "/CN=a", "-addext", f"keyUsage={name}")
+        assert Certificate.from_der(octets).key_usage == usage, name
+
+
 def test_values_by_type(tmp_path: Path) -> None:
     key, file = tmp_path / "key", tmp_path / "certificate"
     values = ["subjectAltName=DNS:a.example,IP:192.0.2.1,DNS:b.example", "extendedKeyUsage=serverAuth"]
