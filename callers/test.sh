@@ -292,6 +292,8 @@ block() {
         "${3:-../README.md}"
 }
 
+pem_of() { echo "-----BEGIN CERTIFICATE-----"; base64 < "$1"; echo "-----END CERTIFICATE-----"; }
+
 # The lines of README for C, in a program that reads a certificate.
 run_readme_block() {
     {
@@ -316,7 +318,7 @@ run_readme_of_c() {
     } > "$room/short.c"
     [ "$(block c 1 c/README.md | wc -l)" -le 10 ] || return
     cc -std=c99 -Wall -Wextra -pedantic -Werror -Ic/include "$room/short.c" "$archive" -o "$room/short" || return
-    { echo "-----BEGIN CERTIFICATE-----"; base64 < "$der"; echo "-----END CERTIFICATE-----"; } > "$room/short.pem"
+    pem_of "$der" > "$room/short.pem"
     for file in "$der" "$room/short.pem"; do
         "$room/short" < "$file" | sed 's/^valid now: [01]$/as the clock says/' > "$room/shown" || return
         [ "$(cat "$room/shown")" = $'as the clock says\nexample.org' ] || return
@@ -606,6 +608,15 @@ if [ -d rust ]; then
         says "cargo test" run_cargo test --offline --quiet --features pem --manifest-path rust/Cargo.toml
         says "cargo check without features" \
             run_cargo check --offline --quiet --no-default-features --manifest-path rust/Cargo.toml
+        # A registry without packages, since that of crates.io needs a network
+        run_publish() (
+            mkdir "$room/index" && cd "$room/index" && git init --quiet \
+                && echo '{"dl": "file:///", "api": "http://localhost"}' > config.json && git add config.json \
+                && git -c user.name=test -c user.email=test commit --quiet --message index || return
+            export CARGO_REGISTRIES_EMPTY_INDEX=file://$room/index CARGO_REGISTRIES_EMPTY_TOKEN=none
+            cd "$root/callers/rust" && run_cargo publish --quiet --dry-run --allow-dirty --registry empty
+        )
+        has git "cargo publish --dry-run" && says "cargo publish --dry-run" run_publish
         says "cargo doc" env RUSTDOCFLAGS="-D warnings" DUMAREWHI_LIB="$(dirname "$archive")" \
             cargo doc --offline --quiet --no-deps --all-features --manifest-path rust/Cargo.toml \
             --target-dir "$room/target"
@@ -644,14 +655,16 @@ if [ -d rust ]; then
                     echo 'fn main() -> Result<(), Box<dyn std::error::Error>> {'
                     echo 'let octets = std::fs::read(std::env::args().nth(1).ok_or("no file")?)?;'
                     block rust 2
-                    echo 'show(&octets)?;'
+                    echo 'for file in std::env::args().skip(1) { show(&std::fs::read(file)?)?; }'
                     echo 'Ok(()) }'
                     block rust 3 rust/README.md
                 } > "$room/project/src/main.rs"
-                [ -n "$add" ] || return
+                # (five lines between the first and the last two)
+                [ -n "$add" ] && [ "$(block rust 3 rust/README.md | wc -l)" -le 8 ] || return
                 cd "$room/project" && CARGO_NET_OFFLINE=true sh -ec "${add//DUMAREWHI/$root} --features pem" || return
-                run_cargo run --offline --quiet -- "$root/crates/der/data/certificate.der" > shown || return
-                grep -q '^CN=.* until 2027-02-22T23:15:41Z$' shown && grep -q '^DNS:example.org$' shown
+                pem_of "$root/crates/der/data/certificate.der" > pem
+                run_cargo run --offline --quiet -- "$root/crates/der/data/certificate.der" pem > shown || return
+                grep -q '^CN=.* until 2027-02-22T23:15:41Z$' shown && [ "$(grep -c '^DNS:example.org$' shown)" = 2 ]
             )
             says "a project of its own" run_project
         else

@@ -116,6 +116,13 @@ static void test_identifiers(void) {
     }
 }
 
+static void test_end(void) {
+    for (size_t length = 0; length < 3; length++) {
+        dm_cursor cursor = dm_cursor_over((const uint8_t *)"\x05\x00", length, DM_DER);
+        expect(dm_is_empty(&cursor) == (length == 0), "octets are left");
+    }
+}
+
 /* PEM where DER is read. */
 static void test_text_of_pem(void) {
     static const char text[] = "-----BEGIN A-----\nAQI=\n-----END A-----\n";
@@ -153,6 +160,7 @@ int main(int count, char **words) {
     test_extensions();
     test_decode();
     test_identifiers();
+    test_end();
     test_text_of_pem();
     if (failed != 0) return 1;
     return count > 1 ? print(count - 1, &words[1]) : 0;

@@ -483,10 +483,28 @@ def test_usage_without_a_name() -> None:
     assert _extensions.read_key_usage(octets_of("03 03 05 80 20")) == x509.KeyUsage.DIGITAL_SIGNATURE
 
 
+def test_usages(tmp_path: Path) -> None:
+    """Each by its name in openssl."""
+    names = {
+        "digitalSignature": x509.KeyUsage.DIGITAL_SIGNATURE,
+        "nonRepudiation": x509.KeyUsage.CONTENT_COMMITMENT,
+        "keyEncipherment": x509.KeyUsage.KEY_ENCIPHERMENT,
+        "dataEncipherment": x509.KeyUsage.DATA_ENCIPHERMENT,
+        "keyAgreement": x509.KeyUsage.KEY_AGREEMENT,
+        "keyCertSign": x509.KeyUsage.KEY_CERT_SIGN,
+        "cRLSign": x509.KeyUsage.CRL_SIGN,
+        "encipherOnly": x509.KeyUsage.ENCIPHER_ONLY,
+        "decipherOnly": x509.KeyUsage.DECIPHER_ONLY,
+    }
+    for name, usage in names.items():
+        octets = made(tmp_path, "-subj", "/CN=a", "-addext", f"keyUsage={name}")
+        assert Certificate.from_der(octets).key_usage == usage, name
+
+
 def test_values_by_type(tmp_path: Path) -> None:
     key, file = tmp_path / "key", tmp_path / "certificate"
     values = ["subjectAltName=DNS:a.example,IP:192.0.2.1,DNS:b.example", "extendedKeyUsage=serverAuth"]
-    values += ["basicConstraints=CA:TRUE,pathlen:3", "keyUsage=keyCertSign,cRLSign", "subjectKeyIdentifier=hash"]
+    values += ["basicConstraints=CA:TRUE,pathlen:0", "keyUsage=keyCertSign,cRLSign", "subjectKeyIdentifier=hash"]
     values += ["authorityKeyIdentifier=keyid:always"]
     words = [word for value in values for word in ("-addext", value)]
     configuration = tmp_path / "configuration"
@@ -499,10 +517,12 @@ def test_values_by_type(tmp_path: Path) -> None:
     second = datetime.timedelta(seconds=1)
     times = [it.not_before - second, it.not_before, it.not_after, it.not_after + second]
     assert [it.is_valid_at(time) for time in times] == [False, True, True, False] and it.is_valid_now()
+    zone = datetime.timezone(datetime.timedelta(hours=-11))
+    assert [it.is_valid_at(time.astimezone(zone)) for time in times] == [False, True, True, False]
     assert it.is_valid_at(it.not_after + second / 2) and not it.is_valid_at(it.not_before - second / 2)
     with pytest.raises(ValueError, match="before 1970"):
         it.is_valid_at(datetime.datetime(1969, 12, 31, tzinfo=datetime.timezone.utc))
-    assert it.basic_constraints == x509.BasicConstraints(True, 3)
+    assert it.basic_constraints == x509.BasicConstraints(True, 0)
     assert it.key_usage == x509.KeyUsage.KEY_CERT_SIGN | x509.KeyUsage.CRL_SIGN
     assert it.extended_key_usage == (ObjectIdentifier("1.3.6.1.5.5.7.3.1"),)
     assert it.authority_key_identifier is not None and it.subject_key_identifier is not None
@@ -511,3 +531,11 @@ def test_values_by_type(tmp_path: Path) -> None:
     plain = Certificate.from_der((REPOSITORY / "crates" / "der" / "data" / "certificate.der").read_bytes())
     assert (plain.get(x509.CRL_NUMBER), plain.get(x509.REASON_CODE)) == (None, None)
     assert str(GeneralName(GeneralNameKind.DNS_NAME, "a\nDNS: b\u202e")) == "DNS:a\\nDNS: b\\u202e"
+
+
+def test_names_in_words(tmp_path: Path) -> None:
+    names = "email:a@b.example,DNS:b.example,URI:http://c.example,IP:192.0.2.1,RID:1.2.3"
+    octets = made(tmp_path, "-subj", "/CN=a", "-addext", f"subjectAltName={names}")
+    shown = openssl("x509", "-inform", "DER", "-noout", "-ext", "subjectAltName", octets=octets).decode()
+    wanted = shown.splitlines()[-1].replace("IP Address", "IP").replace("Registered ID", "RID").strip()
+    assert ", ".join(map(str, Certificate.from_der(octets).subject_alt_name or ())) == wanted

@@ -44,6 +44,11 @@ def test_names(tmp_path: Path, capsys: pytest.CaptureFixture[str]) -> None:
     assert shown[0] == shown[1] == ["valid now: True", "DNS:a.example IP:192.0.2.1 DNS:b.example"]
 
 
+def test_names_take_three_lines() -> None:
+    (lines,) = re.findall(r"^def show\(.*\n((?:    .*\n)+)", README, re.MULTILINE)
+    assert lines.count("\n") == 3
+
+
 def test_secret() -> None:
     serialization = pytest.importorskip(
         "cryptography.hazmat.primitives.serialization", reason="there is no cryptography"

@@ -106,6 +106,7 @@ use alloc::vec::Vec;
 use core::fmt;
 use core::hash::{Hash, Hasher};
 use core::marker::PhantomData;
+use core::mem::MaybeUninit;
 pub use header::Element;
 pub(crate) use header::*;
 #[cfg(feature = "pem")]
@@ -314,9 +315,11 @@ fn value_or_error<T: Default>(call: impl FnOnce(*mut T) -> u32) -> Result<T, u32
 
 /// What a call writes, or its fault.
 fn value_or_fault<T: Default>(call: impl FnOnce(*mut T, *mut Fault) -> u32) -> Result<T, Fault> {
-    match written(|to| written(|fault| call(to, fault))) {
-        (value, (_, OK)) => Ok(value),
-        (_, (fault, _)) => Err(fault),
+    let (mut value, mut fault) = (T::default(), MaybeUninit::uninit());
+    match call(&mut value, fault.as_mut_ptr()) {
+        OK => Ok(value),
+        // SAFETY: each call writes the fault, whatever it returns.
+        _ => Err(unsafe { fault.assume_init() }),
     }
 }
 

@@ -134,6 +134,10 @@ impl<'a> Reader<'a> {
 
     /// An error unless all octets are read.
     pub fn end(self) -> Result<()> {
+        self.expect_end()
+    }
+
+    fn expect_end(&self) -> Result<()> {
         let left = |fault: Fault| Error::new(ErrorKind::TrailingData, fault.offset);
         self.cursor.end().map_err(left)
     }
@@ -212,10 +216,12 @@ impl<'a> Reader<'a> {
 
     /// Reads with the function. After an error the position is unchanged.
     pub(crate) fn attempt<T>(&mut self, function: impl FnOnce(&mut Reader<'a>) -> Result<T>) -> Result<T> {
-        let mut after = self.clone();
-        let value = function(&mut after)?;
-        *self = after;
-        Ok(value)
+        let before = self.cursor;
+        let value = function(self);
+        if value.is_err() {
+            self.cursor = before;
+        }
+        value
     }
 
     /// Reads a value.
@@ -338,7 +344,7 @@ impl<'a> Reader<'a> {
                 max_depth: r.rules().inside().max_depth(),
             };
             let value = function(&mut items)?;
-            items.end()?;
+            items.expect_end()?;
             Ok(value)
         })
     }

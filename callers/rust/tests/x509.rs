@@ -882,6 +882,12 @@ fn lists() {
     assert_eq!((it.version(), it.issuer().to_string()), (2, String::from("CN=a")));
     assert_eq!(it.this_update().to_string(), "2026-01-01T00:00:00Z");
     assert_eq!(it.next_update().unwrap().to_string(), "2027-01-01T00:00:00Z");
+    let mut without = octets.clone();
+    without.drain(41..56);
+    without[1] -= 15;
+    without[3] -= 15;
+    let without = CertificateList::from_der(&without).map(|it| it.next_update());
+    assert_eq!(without, Ok(None));
     let entries: Vec<_> = it.revoked_certificates().unwrap().iter().collect();
     assert_eq!(entries.len(), 1);
     let five = Integer::from_content(&[5]).unwrap();

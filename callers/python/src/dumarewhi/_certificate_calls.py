@@ -36,29 +36,19 @@ def within(data: bytes, begin: int) -> Within:
     return part
 
 
-class Steps:
-    """A call that takes the next item of a list, and the memory that it writes to: it is for one list at a time."""
-
-    __slots__ = ("_call", "_memory", "_left", "_unpack")
-
-    def __init__(self, call: Call, record: Type[Record]) -> None:
-        self._call = call
-        self._memory = record.item[:]
-        self._left, _ = self._memory.buffer_info()
-        self._unpack = record.unpack_from
-
-    def of(self, octets: Octets) -> Iterator[Tuple[Any, ...]]:
-        """The fields of each item of a list, which has to live meanwhile. Octets begin with none if there are none."""
-        call, memory, left, unpack = self._call, self._memory, self._left, self._unpack
-        memory[0], memory[1] = octets
-        item = left + OctetsFields.size
-        while memory[1] and call(left, item):
-            yield unpack(memory, OctetsFields.size)
+def steps_of(call: Call, record: Type[Record], octets: Octets) -> Iterator[Tuple[Any, ...]]:
+    """The fields of each item of a list, which has to live meanwhile. Octets begin with none if there are none."""
+    memory, unpack = record.item[:], record.unpack_from
+    memory[0], memory[1] = octets
+    left, _ = memory.buffer_info()
+    item = left + OctetsFields.size
+    while memory[1] and call(left, item):
+        yield unpack(memory, OctetsFields.size)
 
 
 def steps(call: Call, record: Type[R], octets: Octets) -> Iterator[R]:
     """The items of a list, which has to live meanwhile."""
-    for fields in Steps(call, record).of(octets):
+    for fields in steps_of(call, record, octets):
         yield tuple.__new__(record, fields)
 
 
@@ -84,12 +74,6 @@ def found_text(fault: Record, data: bytes) -> str:
 def rule_text(rule: int) -> str:
     """The text of a rule by its number; of no rule it is empty."""
     return text_of(_header.rule_text, rule)
-
-
-def has_unknown_critical(extensions: Octets) -> bool:
-    """Whether one of the extensions is critical and of none of the kinds."""
-    found: int = _header.has_unknown_critical(*extensions)
-    return found != 0
 
 
 def sha256(data: bytes) -> bytes:

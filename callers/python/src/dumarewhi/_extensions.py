@@ -3,12 +3,13 @@ from __future__ import annotations
 
 import datetime
 from dataclasses import dataclass
-from typing import TYPE_CHECKING, Any, Callable, Dict, Generic, Optional, Tuple, TypeVar, Union
+from typing import TYPE_CHECKING, Any, Callable, Dict, Generic, NamedTuple, Optional, Tuple, TypeVar, Union
 
 from . import _certificate_calls as _calls
 from . import _header, _parts
-from ._certificate_calls import NumberFields, Octets, Steps, Within
+from ._certificate_calls import NumberFields, Octets, Within, steps_of
 from ._header import (
+    ExtensionFields,
     ExtensionKind,
     GeneralNameKind,
     KeyUsage,
@@ -197,15 +198,15 @@ class ExtensionType(Generic[T]):
     """Reads a value in DER, and raises a :class:`CertificateError` at an offset from its start."""
 
 
-@dataclass(frozen=True)
-class Extension:
+class Extension(NamedTuple):
     """An extension (4.2)."""
 
     identifier: ObjectIdentifier
     critical: bool
     octets: bytes
     """The octets of its value: an encoding of the identifier's type."""
-    _kind: int
+    kind: int
+    """Its type, as :attr:`ExtensionType.kind` has it, or 0 if :attr:`value` doesn't read it."""
 
     @property
     def value(self) -> object:
@@ -215,7 +216,7 @@ class Extension:
             CertificateError: The octets aren't such a value. Offsets count from their start.
             DerError: The month of an InvalidityDate doesn't have its day, or its year is 0.
         """
-        found = TYPES.get(self._kind)
+        found = TYPES.get(self.kind)
         return self.octets if found is None else found.read(self.octets)
 
 
@@ -235,7 +236,13 @@ class Extended:
     def get(self, type: ExtensionType[T]) -> Optional[T]:
         """The value of the first extension of a type, such as ``POLICY_CONSTRAINTS``, or ``None``. Errors as for
         :attr:`Extension.value`."""
-        return next((type.read(it.octets) for it in self.extensions if it._kind == type.kind), None)
+        return next((type.read(it.octets) for it in self.extensions if it.kind == type.kind), None)
+
+    @property
+    def has_unknown_critical(self) -> bool:
+        """Whether there is a critical extension that :attr:`Extension.value` doesn't read. If you know no others,
+        reject the certificate, the CRL or the entry (4.2, 5.2, 5.3)."""
+        return any(it.critical and it.kind == ExtensionKind.EXTENSION_OTHER for it in self.extensions)
 
     @property
     def subject_alt_name(self) -> Optional[Tuple[GeneralName, ...]]:
@@ -244,7 +251,7 @@ class Extended:
         Raises:
             DerError: The extension is repeated (4.2), or its value is wrong.
         """
-        found = [it.octets for it in self.extensions if it._kind == ExtensionKind.SUBJECT_ALT_NAME]
+        found = [it.octets for it in self.extensions if it.kind == ExtensionKind.SUBJECT_ALT_NAME]
         if len(found) > 1:
             raise error_at(Reason.EXTENSION_REPEATED, 0)
         return read_general_names(found[0]) if found else None
@@ -491,15 +498,15 @@ TYPES: Dict[int, ExtensionType[Any]] = {it.kind: it for it in list(vars().values
 
 def extensions_of(extensions: Octets, octets: bytes) -> Tuple[Extension, ...]:
     """The extensions of a list, which is a part of the octets."""
-    begin, steps = address_of(octets), Steps(_header.next_extension, _header.ExtensionFields)
-    return tuple(
-        [
-            Extension(
-                ObjectIdentifier.from_content(octets[identifier - begin : identifier - begin + size]),
-                critical != 0,
-                octets[value - begin : value - begin + length],
-                kind,
-            )
-            for identifier, size, value, length, critical, kind in steps.of(extensions)
-        ]
-    )
+    begin, new, found = address_of(octets), tuple.__new__, []
+    steps = steps_of(_header.next_extension, ExtensionFields, extensions)
+    for identifier, size, value, length, critical, kind in steps:
+        identifier, value = identifier - begin, value - begin
+        fields = (
+            ObjectIdentifier.from_content(octets[identifier : identifier + size]),
+            critical != 0,
+            octets[value : value + length],
+            kind,
+        )
+        found.append(new(Extension, fields))
+    return tuple(found)

@@ -2,24 +2,35 @@
 from __future__ import annotations
 
 import ipaddress
+from array import array
 from dataclasses import dataclass
-from typing import Iterator, Optional, Tuple, Union
+from functools import lru_cache
+from itertools import chain
+from typing import TYPE_CHECKING, Iterator, NamedTuple, Optional, Tuple, Union
 
 from . import _certificate_calls as _calls
 from . import _header, _library, _parts
-from ._certificate_calls import Octets, Steps, Within
+from ._certificate_calls import Octets, Within
 from ._header import AttributeFields, Class, GeneralNameFields, GeneralNameKind, OctetsFields
 from ._tag import CLASS_SHIFT, Tag, tag_of
 from ._tree import _CODECS
 from ._values import ObjectIdentifier
 
-# The types whose characters the library looks at. Those of the others are what the codec takes.
+if TYPE_CHECKING:
+    from ._records import Words
+
+# The types that have some characters of ASCII alone. Those of the others are what the codec takes.
 _CHECKED = frozenset(tag.number for tag in (Tag.NUMERIC_STRING, Tag.PRINTABLE_STRING, Tag.VISIBLE_STRING))
 _UNIVERSAL = Class.UNIVERSAL
 
 
-@dataclass(frozen=True)
-class Attribute:
+@lru_cache(maxsize=None)
+def _characters(number: int) -> bytes:
+    """The characters of a type, each of which the library looks at once."""
+    return bytes(octet for octet in range(256) if not _header.check_text(number, bytes([octet]), 1))
+
+
+class Attribute(NamedTuple):
     """An attribute of a name: a type and a value."""
 
     identifier: ObjectIdentifier
@@ -35,7 +46,7 @@ class Attribute:
         codec = _CODECS.get(number) if self.tag.tag_class == _UNIVERSAL else None
         if codec is None or self.constructed:
             return None
-        if number in _CHECKED and _header.check_text(number, value, len(value)):
+        if number in _CHECKED and value.translate(None, _characters(number)):
             return None
         try:
             return value.decode(codec)
@@ -63,14 +74,17 @@ class Name:
         """Its relative names in order, mostly of one attribute each."""
         octets = self.octets
         begin = _library.address_of(octets)
-        names = Steps(_header.next_relative_name, OctetsFields)
-        attributes = Steps(_header.next_attribute, AttributeFields)
-        return tuple([_attributes(attributes, name, octets, begin) for name in names.of((begin, len(octets)))])
+        memory = array("Q", [begin, len(octets), *_ATTRIBUTE_MEMORY])
+        names, _ = memory.buffer_info()
+        found = []
+        while memory[1] and _header.next_relative_name(names, names + OctetsFields.size):
+            found.append(_attributes(memory, OctetsFields.size, octets, begin))
+        return tuple(found)
 
     @property
     def attributes(self) -> Tuple[Attribute, ...]:
         """The attributes of all relative names, in order."""
-        return tuple(attribute for part in self.relative_names for attribute in part)
+        return tuple(chain.from_iterable(self.relative_names))
 
     def get(self, identifier: Union[ObjectIdentifier, str]) -> Optional[str]:
         """The text of the first attribute of a type, such as ``"2.5.4.3"``, commonName."""
@@ -102,21 +116,31 @@ class Name:
 
 def attributes_of(name: Octets, octets: bytes) -> Tuple[Attribute, ...]:
     """The attributes of a relative name, which is a part of the octets."""
-    return _attributes(Steps(_header.next_attribute, AttributeFields), name, octets, _library.address_of(octets))
+    memory = array("Q", _ATTRIBUTE_MEMORY)
+    memory[0], memory[1] = name
+    return _attributes(memory, 0, octets, _library.address_of(octets))
 
 
-def _attributes(steps: Steps, name: Octets, octets: bytes, begin: int) -> Tuple[Attribute, ...]:
-    return tuple(
-        [
-            Attribute(
-                ObjectIdentifier.from_content(octets[identifier - begin : identifier - begin + size]),
-                tag_of(number | tag_class << CLASS_SHIFT),
-                constructed != 0,
-                octets[value - begin : value - begin + length],
-            )
-            for identifier, size, value, length, number, tag_class, constructed, _ in steps.of(name)
-        ]
-    )
+# Memory for what is left of a relative name, and for an attribute behind it.
+_ATTRIBUTE_MEMORY = AttributeFields.item
+
+
+def _attributes(memory: Words, at: int, octets: bytes, begin: int) -> Tuple[Attribute, ...]:
+    """The attributes of the relative name whose address and length are at an offset of memory."""
+    start, _ = memory.buffer_info()
+    left, next_attribute, unpack = start + at, _header.next_attribute, AttributeFields.unpack_from
+    length_at, behind, new, found = at // 8 + 1, at + OctetsFields.size, tuple.__new__, []
+    while memory[length_at] and next_attribute(left, start + behind):
+        identifier, size, value, length, number, tag_class, constructed, _ = unpack(memory, behind)
+        identifier, value = identifier - begin, value - begin
+        fields = (
+            ObjectIdentifier.from_content(octets[identifier : identifier + size]),
+            tag_of(number | tag_class << CLASS_SHIFT),
+            constructed != 0,
+            octets[value : value + length],
+        )
+        found.append(new(Attribute, fields))
+    return tuple(found)
 
 
 Address = Union[ipaddress.IPv4Address, ipaddress.IPv6Address]

@@ -4,7 +4,7 @@ from __future__ import annotations
 import datetime
 from dataclasses import dataclass
 from struct import Struct
-from typing import TYPE_CHECKING, Optional, Tuple, Type, Union
+from typing import TYPE_CHECKING, NamedTuple, Optional, Tuple, Type, Union
 
 from . import _certificate_calls as _calls
 from . import _header, _library
@@ -74,8 +74,7 @@ class CertificateError(DerError):
         return CertificateError, (self._fault, self.text), {"names": self.names}
 
 
-@dataclass(frozen=True)
-class Algorithm:
+class Algorithm(NamedTuple):
     """An algorithm (4.1.1.2)."""
 
     identifier: ObjectIdentifier

@@ -64,9 +64,6 @@ class Certificate(Extended):
     issuer_unique_id: Optional[BitString]
     subject_unique_id: Optional[BitString]
     extensions: Tuple[Extension, ...]
-    has_unknown_critical: bool
-    """Whether there is a critical extension that :attr:`Extension.value` doesn't read. If you know no others, reject
-    the certificate (4.2)."""
     signature_algorithm: Algorithm
     signature_value: BitString
     """The signature. It isn't verified."""
@@ -99,7 +96,6 @@ class Certificate(Extended):
             issuer_unique_id=_parts.optional_bits(found.issuer_unique_id, part),
             subject_unique_id=_parts.optional_bits(found.subject_unique_id, part),
             extensions=extensions_of(found.extensions, octets),
-            has_unknown_critical=_calls.has_unknown_critical(found.extensions),
             signature_algorithm=_parts.algorithm(found.signature_algorithm, part),
             signature_value=_parts.bits(found.signature_value, part),
             _validity=(_parts.moment(found.not_before), _parts.moment(found.not_after)),
@@ -155,9 +151,6 @@ class RevokedCertificate(Extended):
     serial_number: int
     extensions: Tuple[Extension, ...]
     """The extensions of the entry (5.3), such as its reason."""
-    has_unknown_critical: bool
-    """Whether there is a critical extension that :attr:`Extension.value` doesn't read. If you know no others, reject
-    the CRL (5.3)."""
     _date: Moment
 
     @property
@@ -191,9 +184,6 @@ class CertificateList(Extended):
     revoked_certificates: Optional[Tuple[RevokedCertificate, ...]]
     """``None`` if the field is absent: then there are none (5.1.2.6)."""
     extensions: Tuple[Extension, ...]
-    has_unknown_critical: bool
-    """Whether there is a critical extension that :attr:`Extension.value` doesn't read. If you know no others, reject
-    the CRL (5.2)."""
     signature_algorithm: Algorithm
     signature_value: BitString
     """The signature. It isn't verified."""
@@ -217,7 +207,6 @@ class CertificateList(Extended):
             issuer=Name(part(found.issuer)),
             revoked_certificates=_revoked(part(found.revoked)) if found.has_revoked else None,
             extensions=extensions_of(found.extensions, octets),
-            has_unknown_critical=_calls.has_unknown_critical(found.extensions),
             signature_algorithm=_parts.algorithm(found.signature_algorithm, part),
             signature_value=_parts.bits(found.signature_value, part),
             _this_update=_parts.moment(found.this_update),
@@ -314,7 +303,6 @@ def _revoked(octets: bytes) -> Tuple[RevokedCertificate, ...]:
         RevokedCertificate(
             _parts.number(part(item.serial_number)),
             extensions_of(item.extensions, octets),
-            _calls.has_unknown_critical(item.extensions),
             _parts.moment(item.date),
         )
         for item, part in _calls.items(_header.next_revoked, _header.RevokedFields, octets)
