@@ -483,6 +483,15 @@ def test_usage_without_a_name() -> None:
     assert _extensions.read_key_usage(octets_of("03 03 05 80 20")) == x509.KeyUsage.DIGITAL_SIGNATURE
 
 
+def test_fields_of_an_authority() -> None:
+    """Each alone (RFC 5280 4.2.1.1)."""
+    for octets, wanted in (("80 01 05", 0), ("a1 03 82 01 61", 1), ("82 01 05", 2)):
+        content = octets_of(octets)
+        it = _extensions.read_authority_key_identifier(bytes([0x30, len(content)]) + content)
+        fields = it.key_identifier, it.issuer, it.serial_number
+        assert [at for at, field in enumerate(fields) if field is not None] == [wanted]
+
+
 def test_usages(tmp_path: Path) -> None:
     """Each by its name in openssl."""
     names = {

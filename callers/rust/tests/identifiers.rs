@@ -39,7 +39,7 @@ fn arcs() {
 
 #[test]
 fn order() {
-    // By octets, 2.5.4.16384 (55 04 81 80 00) would be before 2.5.4.200 (55 04 81 48).
+    // By octets, 2.5.4.16384 (55 04 81 80 00) would be before 2.5.4.16383 (55 04 ff 7f).
     let sorted = [
         oid!(0, 39),
         oid!(1, 2),
@@ -48,7 +48,7 @@ fn order() {
         oid!(2, 5, 4),
         oid!(2, 5, 4, 3),
         oid!(2, 5, 4, 3, 1),
-        oid!(2, 5, 4, 200),
+        oid!(2, 5, 4, 16383),
         oid!(2, 5, 4, 16384),
         UUID,
         oid!(2, 40),

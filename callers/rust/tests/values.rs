@@ -1,5 +1,5 @@
 //! Values of elements. Expected ones are from X.690, X.680 and RFC 5280, or are arithmetic.
-use dumarewhi::{Any, ErrorKind, ObjectIdentifier, Reason, Tag, Zone};
+use dumarewhi::{Any, BitString, ErrorKind, ObjectIdentifier, Reason, Tag, Zone};
 
 /// A primitive element of a universal type.
 fn element(number: u8, content: &[u8]) -> Vec<u8> {
@@ -196,6 +196,8 @@ fn bit_strings_with_wrong_counts() {
         let error = Any::from_ber(input).unwrap_err();
         assert_eq!(error.kind(), ErrorKind::Malformed(*reason), "{input:?}");
     }
+    assert_eq!(BitString::new(8, &[0]), Err(Reason::UNUSED_BITS_ABOVE_SEVEN));
+    assert_eq!(BitString::new(1, &[]), Err(Reason::UNUSED_BITS_OF_NONE));
 }
 
 /// X.690 8.23.5: the octets of a TeletexString needn't be UTF-8, and then they are no `&str`.

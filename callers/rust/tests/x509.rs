@@ -111,6 +111,8 @@ fn extensions() {
         "DNS:example.org IP:192.0.2.1 IP:2001:db8::1 email:a@example.org URI:https://example.org/ RID:1.2.3";
     assert_eq!(shown.join(" "), texts);
     assert_eq!(GeneralName::DnsName("a\nb").to_string(), r"DNS:a\nb");
+    assert_eq!(GeneralName::Uri("a\nb").to_string(), r"URI:a\nb");
+    assert_eq!(GeneralName::Rfc822Name("a\nb").to_string(), r"email:a\nb");
     let names: Vec<_> = names.iter().collect();
     let expected = [
         GeneralName::DnsName("example.org"),
@@ -867,6 +869,23 @@ fn rows_of_changes() {
     try_changes("requests_and_lists", "certification_request", |octets| {
         CertificationRequest::from_der(octets).map(drop)
     });
+}
+
+/// Each field of an AuthorityKeyIdentifier alone (RFC 5280 4.2.1.1).
+#[test]
+fn fields_of_an_authority() {
+    let has = |text: &str| {
+        let octets = octets(text);
+        let it = AuthorityKeyIdentifier::from_der(&octets).unwrap();
+        [
+            it.key_identifier.is_some(),
+            it.issuer.is_some(),
+            it.serial_number.is_some(),
+        ]
+    };
+    assert_eq!(has("30 03 80 01 05"), [true, false, false]);
+    assert_eq!(has("30 05 a1 03 82 01 61"), [false, true, false]);
+    assert_eq!(has("30 03 82 01 05"), [false, false, true]);
 }
 
 /// The list that rows are changes of: with the entry 5, and crlNumber 7.
