@@ -1,0 +1,289 @@
+//! The components of each SEQUENCE and SET, and the alternatives of each CHOICE.
+use crate::error::{Fault, MOST_COPIES, MOST_STEPS, Problem};
+use crate::item::{Item, Shape};
+use crate::tags::base_of;
+use der_schema::schema::Class;
+use std::alloc::{AllocError, Global};
+
+/// A component or an alternative.
+#[derive(Clone, Copy)]
+pub(crate) struct Member {
+    pub name: &'static str,
+    /// The index of its item.
+    pub item: usize,
+    pub optional: bool,
+    /// Whether it is an extension addition (X.680 25.1, 29.1).
+    addition: bool,
+    /// The number of its automatic tag (25.7, 29.3).
+    number: Option<u32>,
+}
+
+/// Where the members of a list are in those of all lists.
+#[derive(Clone, Copy)]
+pub(crate) struct List {
+    /// The item of the SEQUENCE, SET or CHOICE.
+    pub item: usize,
+    pub first: usize,
+    pub end: usize,
+}
+
+/// The members of all lists.
+#[derive(Drop)]
+pub(crate) struct Lists {
+    pub lists: Vec<List>,
+    pub members: Vec<Member>,
+}
+
+/// Makes the members of all lists, and adds an item for each automatic tag.
+pub(crate) fn make_lists(alloc: Global, items: &mut Vec<Item>) -> Result<Lists, Fault> {
+    let mut lists = Vec::new(alloc);
+    let mut members = Vec::new(alloc);
+    let mut copies = MOST_COPIES;
+    for item in 0..items.len() {
+        if !is_list(items, item) {
+            continue;
+        }
+        let first = members.len();
+        let found = members_of(alloc, items, item, MOST_STEPS, &mut copies)?;
+        for member in &found {
+            members.push(tagged(items, *member)?)?;
+        }
+        lists.push(List {
+            item,
+            first,
+            end: members.len(),
+        })?;
+    }
+    Ok(Lists { lists, members })
+}
+
+fn shape_at(items: &[Item], index: usize) -> Shape {
+    match items.get(index) {
+        Some(item) => item.shape,
+        None => Shape::Any,
+    }
+}
+
+fn is_list(items: &[Item], index: usize) -> bool {
+    matches!(shape_at(items, index), Shape::Components(_) | Shape::Choice)
+}
+
+/// The member whose item has the automatic tag, if it has one.
+fn tagged(items: &mut Vec<Item>, member: Member) -> Result<Member, AllocError> {
+    let (Some(number), Some(item)) = (member.number, items.get(member.item)) else {
+        return Ok(member);
+    };
+    let item = Item {
+        shape: Shape::Tagged(Class::ContextSpecific, number, false),
+        inner: member.item,
+        ..*item
+    };
+    let index = items.len();
+    items.push(item)?;
+    Ok(Member {
+        item: index,
+        ..member
+    })
+}
+
+/// The members of a list: COMPONENTS OF is replaced by those of its type (25.5), and an alternative that is a CHOICE
+/// without a tag by those of the CHOICE. Then they have automatic tags, if it is so (25.8).
+fn members_of(
+    alloc: Global,
+    items: &[Item],
+    list: usize,
+    levels: usize,
+    copies: &mut usize,
+) -> Result<Vec<Member>, Fault> {
+    let own = own_members(alloc, items, list)?;
+    let automatic = is_automatic(items, list, &own);
+    let mut members = Vec::new(alloc);
+    for member in &own {
+        match replaced(items, list, member.item, automatic)? {
+            Some(inner) => {
+                let left = levels.checked_sub(1);
+                let Some(left) = left else {
+                    return Err(fault_at(items, member.item, Problem::Endless));
+                };
+                let inside = members_of(alloc, items, inner, left, copies)?;
+                copy_members(&mut members, *member, &inside, copies, items)?;
+            }
+            None => members.push(*member)?,
+        }
+    }
+    if automatic {
+        number_members(&mut members);
+    }
+    Ok(members)
+}
+
+/// Adds the members of a list that replace a member. Those of COMPONENTS OF have no extension additions (25.5).
+fn copy_members(
+    members: &mut Vec<Member>,
+    replaced: Member,
+    inside: &[Member],
+    copies: &mut usize,
+    items: &[Item],
+) -> Result<(), Fault> {
+    let components = matches!(shape_at(items, replaced.item), Shape::ComponentsOf);
+    let needed = inside.len().saturating_add(1);
+    if *copies < needed {
+        return Err(fault_at(items, replaced.item, Problem::TooMany));
+    }
+    *copies -= needed;
+    for member in inside {
+        if !components || !member.addition {
+            members.push(Member {
+                addition: replaced.addition,
+                optional: member.optional || replaced.addition,
+                ..*member
+            })?;
+        }
+    }
+    Ok(())
+}
+
+/// The members of a list as they stand in the text.
+fn own_members(alloc: Global, items: &[Item], list: usize) -> Result<Vec<Member>, AllocError> {
+    let mut members = Vec::new(alloc);
+    let Some(around) = items.get(list) else {
+        return Ok(members);
+    };
+    let mut markers: usize = 0;
+    let mut in_brackets = false;
+    let first = list.saturating_add(1);
+    let Some(inside) = items.get(first..around.after) else {
+        return Ok(members);
+    };
+    for (index, item) in inside.iter().enumerate() {
+        let level = item.depth.saturating_sub(around.depth);
+        if level == 1 {
+            in_brackets = matches!(item.shape, Shape::Additions);
+        }
+        if matches!(item.shape, Shape::Extension) && level == 1 {
+            markers = markers.saturating_add(1);
+        } else if (level == 1 && !in_brackets) || (level == 2 && in_brackets) {
+            let addition = in_brackets || markers == 1;
+            members.push(Member {
+                name: item.name,
+                item: first.saturating_add(index),
+                optional: item.optional || addition,
+                addition,
+                number: None,
+            })?;
+        }
+    }
+    Ok(members)
+}
+
+/// Whether the members of a list have automatic tags: its module says so, and no member has a tag (25.3, 25.7, 27.4,
+/// 29.3).
+fn is_automatic(items: &[Item], list: usize, own: &[Member]) -> bool {
+    match items.get(list) {
+        Some(item) if item.automatic => own.iter().all(|member| !matches!(
+            shape_at(items, member.item),
+            Shape::Tagged(..)
+        )),
+        _ => false,
+    }
+}
+
+/// The list that replaces a member, if one does.
+fn replaced(
+    items: &[Item],
+    list: usize,
+    member: usize,
+    automatic: bool,
+) -> Result<Option<usize>, Fault> {
+    match (shape_at(items, list), shape_at(items, member)) {
+        (Shape::Components(number), Shape::ComponentsOf) => {
+            let base = base_of(items, member.saturating_add(1))?;
+            match shape_at(items, base.end) {
+                Shape::Components(other) if other == number => Ok(Some(base.end)),
+                _ => Err(fault_at(items, member, Problem::NoComponents)),
+            }
+        }
+        (Shape::Choice, _) if !automatic => {
+            let base = base_of(items, member)?;
+            match (shape_at(items, base.end), base.tag) {
+                (Shape::Choice, None) => Ok(Some(base.end)),
+                _ => Ok(None),
+            }
+        }
+        _ => Ok(None),
+    }
+}
+
+/// Numbers the members of a list: first those that aren't extension additions, then these (25.8).
+fn number_members(members: &mut [Member]) {
+    let next = number_from(members, 0, false);
+    number_from(members, next, true);
+}
+
+fn number_from(members: &mut [Member], first: u32, additions: bool) -> u32 {
+    let mut number = first;
+    for member in members {
+        if member.addition == additions {
+            member.number = Some(number);
+            number = number.saturating_add(1);
+        }
+    }
+    number
+}
+
+pub(crate) fn fault_at(items: &[Item], index: usize, problem: Problem) -> Fault {
+    match items.get(index) {
+        Some(item) => item.place.fault(problem),
+        None => Fault::from(AllocError),
+    }
+}
+
+/// Replaces selection types by references to the alternative that they select (30.1).
+pub(crate) fn select(alloc: Global, items: &mut Vec<Item>) -> Result<(), Fault> {
+    for index in (0..items.len()).rev() {
+        if let Shape::Selection(name) = shape_at(items, index) {
+            let selected = selected(alloc, items, index, name)?;
+            if let Some(item) = items.get_mut(index) {
+                *item = selecting(*item, selected);
+            }
+        }
+    }
+    Ok(())
+}
+
+/// A selection type as a reference to the item that it selects, or as any element.
+fn selecting(item: Item, selected: Option<usize>) -> Item {
+    match selected {
+        Some(inner) => Item {
+            shape: Shape::Reference,
+            inner,
+            ..item
+        },
+        None => Item {
+            shape: Shape::Any,
+            ..item
+        },
+    }
+}
+
+/// The item of the alternative that a selection type selects. None if its type is any element, or is itself selected
+/// elsewhere.
+fn selected(
+    alloc: Global,
+    items: &[Item],
+    selection: usize,
+    name: &'static str,
+) -> Result<Option<usize>, Fault> {
+    let base = base_of(items, selection.saturating_add(1))?;
+    match shape_at(items, base.end) {
+        Shape::Any | Shape::Unknown | Shape::Selection(_) => return Ok(None),
+        Shape::Choice => {
+            let members = own_members(alloc, items, base.end)?;
+            if let Some(member) = members.iter().find(|member| member.name == name) {
+                return Ok(Some(member.item));
+            }
+        }
+        _ => {}
+    }
+    Err(fault_at(items, selection, Problem::NoAlternative(name)))
+}
