@@ -2,7 +2,7 @@
 use crate::error::{Fault, Problem};
 use crate::item::{Item, SET, Shape, UniversalTag};
 use crate::lists::{List, Lists, fault_at};
-use crate::tags::{base_of, with_tag};
+use crate::tags::{base_of, tagged_type};
 use der_schema::schema::{Class, Component, Form, Inside, Secrecy, Type};
 use std::alloc::{AllocError, Global};
 use std::collections::BTreeSet;
@@ -210,11 +210,7 @@ fn check_tags(
 /// The type of the item with an index, from those that the items have by themselves.
 fn type_of(items: &[Item], own: &[Type], index: usize) -> Result<Type, Fault> {
     let base = base_of(items, index)?;
-    Ok(match (type_at(own, base.end), base.tag) {
-        (kind @ Type::Tagged(..), tag) => with_tag(kind, tag),
-        (kind, None) => kind,
-        (_, tag) => with_tag(type_at(own, base.tagged), tag),
-    })
+    Ok(tagged_type(base.tag, type_at(own, base.end), type_at(own, base.tagged)))
 }
 
 fn type_at(own: &[Type], index: usize) -> Type {

@@ -1,4 +1,7 @@
 //! Errors of modules whose types can't be made.
+ghost use Rattle.std.specs.Prelude.{◌≡◌, map};
+ghost use Rattle.asn1_types.specs.Places.{IsAt};
+
 use asn1_modules::{column_after, line_after};
 use std::alloc::{AllocError, AllocFailed};
 
@@ -102,7 +105,11 @@ impl Place {
 }
 
 /// The error with the line and column of a fault.
-pub(crate) fn located(texts: &[&'static [u8]], fault: Fault) -> TypesError {
+pub(crate) fn located(texts: &[&'static [u8]], fault: Fault) -> TypesError
+    ensures place { IsAt (map (λ t. t.now) texts.now) fault.place.offset result }
+    ensures text { result.text ≡ fault.place.text }
+    ensures problem { result.problem ≡ fault.problem }
+{
     let Place { text, offset } = fault.place;
     let octets: &[u8] = match texts.get(text) {
         Some(octets) => octets,

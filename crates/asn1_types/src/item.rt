@@ -1,4 +1,7 @@
 //! The types of all modules, one after another: a type stands before those inside it.
+ghost use Rattle.std.specs.Prelude.{◌≡◌};
+ghost use Rattle.asn1_types.specs.UniversalTags.{class_of, plain, shape_of, universal_form, universal_number};
+
 use crate::error::Place;
 use asn1_modules::{Kind, SimpleType, TagClass};
 use der_schema::schema::{Class, Form};
@@ -66,7 +69,9 @@ pub(crate) const SEQUENCE: u32 = 16;
 pub(crate) const SET: u32 = 17;
 
 /// What a type is that has nothing inside, and no name to look up.
-pub(crate) fn plain_shape(kind: Kind<'static>) -> Shape {
+pub(crate) fn plain_shape(kind: Kind<'static>) -> Shape
+    ensures { result ≡ shape_of kind }
+{
     match kind {
         Kind::Simple(simple) => Shape::Plain(simple_tag(simple)),
         Kind::Integer => primitive(2),
@@ -88,21 +93,27 @@ pub(crate) fn plain_shape(kind: Kind<'static>) -> Shape {
     }
 }
 
-fn primitive(number: u32) -> Shape {
+fn primitive(number: u32) -> Shape
+    ensures { result ≡ plain number Form.Primitive }
+{
     Shape::Plain(UniversalTag {
         number,
         form: Form::Primitive,
     })
 }
 
-fn string(number: u32) -> Shape {
+fn string(number: u32) -> Shape
+    ensures { result ≡ plain number Form.Either }
+{
     Shape::Plain(UniversalTag {
         number,
         form: Form::Either,
     })
 }
 
-fn constructed(number: u32) -> Shape {
+fn constructed(number: u32) -> Shape
+    ensures { result ≡ plain number Form.Constructed }
+{
     Shape::Plain(UniversalTag {
         number,
         form: Form::Constructed,
@@ -110,7 +121,9 @@ fn constructed(number: u32) -> Shape {
 }
 
 /// The tag of a type of one word (X.680 8.4, table 1), and its form (X.690 8). A string may be constructed by BER.
-pub(crate) fn simple_tag(simple: SimpleType) -> UniversalTag {
+fn simple_tag(simple: SimpleType) -> UniversalTag
+    ensures { result ≡ record { number = universal_number simple; form = universal_form simple } }
+{
     UniversalTag {
         number: simple_number(simple),
         form: simple_form(simple),
@@ -118,7 +131,9 @@ pub(crate) fn simple_tag(simple: SimpleType) -> UniversalTag {
 }
 
 /// The number of the tag of a type of one word (X.680 8.4, table 1).
-fn simple_number(simple: SimpleType) -> u32 {
+fn simple_number(simple: SimpleType) -> u32
+    ensures { result ≡ universal_number simple }
+{
     match simple {
         SimpleType::Boolean => 1,
         SimpleType::Null => 5,
@@ -151,7 +166,9 @@ fn simple_number(simple: SimpleType) -> u32 {
 
 /// The form of a type of one word (X.690 8.2 to 8.26). UTCTime, GeneralizedTime and ObjectDescriptor are strings (X.680
 /// 46.3, 47.3, 48.3).
-fn simple_form(simple: SimpleType) -> Form {
+fn simple_form(simple: SimpleType) -> Form
+    ensures { result ≡ universal_form simple }
+{
     match simple {
         SimpleType::External => Form::Constructed,
         SimpleType::Boolean
@@ -170,7 +187,9 @@ fn simple_form(simple: SimpleType) -> Form {
 }
 
 /// The class of a tag (31.1).
-pub(crate) fn class_of(class: TagClass) -> Class {
+pub(crate) fn class_of(class: TagClass) -> Class
+    ensures { result ≡ class_of class }
+{
     match class {
         TagClass::Universal => Class::Universal,
         TagClass::Application => Class::Application,

@@ -1,4 +1,7 @@
 //! The components of each SEQUENCE and SET, and the alternatives of each CHOICE.
+ghost use Rattle.std.specs.Prelude.{◌≡◌, slice_get};
+ghost use Rattle.asn1_types.specs.Tagging.{has_automatic_tags, is_tagged};
+
 use crate::error::{Fault, MOST_COPIES, MOST_STEPS, Problem};
 use crate::item::{Item, Shape};
 use crate::tags::base_of;
@@ -112,7 +115,7 @@ fn members_of(
         }
     }
     if automatic {
-        number_members(&mut members);
+        return Ok(numbered(alloc, &members)?);
     }
     Ok(members)
 }
@@ -178,13 +181,22 @@ fn own_members(alloc: Global, items: &[Item], list: usize) -> Result<Vec<Member>
 
 /// Whether the members of a list have automatic tags: its module says so, and no member has a tag (25.3, 25.7, 27.4,
 /// 29.3).
-fn is_automatic(items: &[Item], list: usize, own: &[Member]) -> bool {
+fn is_automatic(items: &[Item], list: usize, own: &[Member]) -> bool
+    ensures { result ≡ has_automatic_tags items.now (slice_get items.now list) own.now }
+{
     match items.get(list) {
-        Some(item) if item.automatic => own.iter().all(|member| !matches!(
-            shape_at(items, member.item),
-            Shape::Tagged(..)
-        )),
-        _ => false,
+        Some(item) => item.automatic && own.iter().all(|member| !is_tagged(items, member.item)),
+        None => false,
+    }
+}
+
+/// Whether the item with an index has a tag in the text.
+fn is_tagged(items: &[Item], index: usize) -> bool
+    ensures { result ≡ is_tagged (slice_get items.now index) }
+{
+    match items.get(index) {
+        Some(item) => matches!(item.shape, Shape::Tagged(..)),
+        None => false,
     }
 }
 
@@ -214,21 +226,36 @@ fn replaced(
     }
 }
 
-/// Numbers the members of a list: first those that aren't extension additions, then these (25.8).
-fn number_members(members: &mut [Member]) {
-    let next = number_from(members, 0, false);
-    number_from(members, next, true);
+/// The members of a list with automatic tags: first those that aren't extension additions are numbered, then these
+/// (25.8).
+fn numbered(alloc: Global, members: &[Member]) -> Result<Vec<Member>, AllocError> {
+    let mut numbered = Vec::new(alloc);
+    let mut next: u32 = 0;
+    let mut next_addition = root_count(members);
+    for member in members {
+        let number = if member.addition { next_addition } else { next };
+        if member.addition {
+            next_addition = next_addition.saturating_add(1);
+        } else {
+            next = next.saturating_add(1);
+        }
+        numbered.push(Member {
+            number: Some(number),
+            ..*member
+        })?;
+    }
+    Ok(numbered)
 }
 
-fn number_from(members: &mut [Member], first: u32, additions: bool) -> u32 {
-    let mut number = first;
+/// How many members aren't extension additions.
+fn root_count(members: &[Member]) -> u32 {
+    let mut count: u32 = 0;
     for member in members {
-        if member.addition == additions {
-            member.number = Some(number);
-            number = number.saturating_add(1);
+        if !member.addition {
+            count = count.saturating_add(1);
         }
     }
-    number
+    count
 }
 
 pub(crate) fn fault_at(items: &[Item], index: usize, problem: Problem) -> Fault {
