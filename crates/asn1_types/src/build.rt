@@ -1,11 +1,15 @@
 //! Makes components of items.
+ghost use Rattle.std.specs.Prelude.{◌≡◌, IfOk};
+ghost use Rattle.asn1_types.specs.Tagging.{IsOwnType, IsTypeAt};
+
 use crate::error::{Fault, Problem};
-use crate::item::{Item, SET, Shape, UniversalTag};
-use crate::lists::{List, Lists, fault_at};
+use crate::item::{Item, SET, Shape, UniversalTag, fault_at};
+use crate::lists::{List, Lists};
 use crate::tags::{base_of, tagged_type};
 use der_schema::schema::{Class, Component, Form, Inside, Secrecy, Type};
 use std::alloc::{AllocError, Global};
 use std::collections::BTreeSet;
+use std::slice;
 
 /// A component with this name.
 pub(crate) fn component(name: &'static str, optional: bool, kind: Type) -> Component {
@@ -23,7 +27,11 @@ pub(crate) fn types_of(alloc: Global, items: &[Item], lists: &Lists) -> Result<V
     let inner = inner_components(alloc, items)?;
     let mut own = Vec::new(alloc);
     for (index, item) in items.iter().enumerate() {
-        own.push(own_type(item.shape, part(inner, index, index.saturating_add(1))))?;
+        let kind = match inner.get(index) {
+            Some(inner) => own_type(item.shape, inner),
+            None => Type::Any,
+        };
+        own.push(kind)?;
     }
     add_components(alloc, items, lists, &mut own)?;
     add_choices(alloc, items, lists, &mut own)?;
@@ -66,22 +74,33 @@ fn inner_components(alloc: Global, items: &[Item]) -> Result<&'static [Component
     Ok(components.leak())
 }
 
-/// The type of an item that is neither a list nor a reference, without the tags of references to it. A tag is explicit.
-fn own_type(shape: Shape, inner: &'static [Component]) -> Type {
+/// The type of an item by itself, unless it is a list. `inner` is the component of the type inside it. A tag is explicit
+/// (X.690 8.14.2).
+fn own_type(shape: Shape, inner: &'static Component) -> Type
+    ensures { IsOwnType shape inner.now result }
+{
     match shape {
         Shape::Plain(UniversalTag { number, form }) => {
             Type::Tagged(Class::Universal, number, form, Inside::Free)
         }
-        Shape::Items(number) => match inner {
-            [item, ..] => constructed(number, Inside::Each(item)),
-            [] => Type::Any,
-        },
-        Shape::Holder(number) => {
-            Type::Tagged(Class::Universal, number, Form::Either, Inside::Holds(inner))
-        }
-        Shape::Tagged(class, number, _) => {
-            Type::Tagged(class, number, Form::Constructed, Inside::Components(inner))
-        }
+        Shape::Items(number) => Type::Tagged(
+            Class::Universal,
+            number,
+            Form::Constructed,
+            Inside::Each(inner),
+        ),
+        Shape::Holder(number) => Type::Tagged(
+            Class::Universal,
+            number,
+            Form::Either,
+            Inside::Holds(slice::from_ref(inner)),
+        ),
+        Shape::Tagged(class, number, _) => Type::Tagged(
+            class,
+            number,
+            Form::Constructed,
+            Inside::Components(slice::from_ref(inner)),
+        ),
         _ => Type::Any,
     }
 }
@@ -208,14 +227,9 @@ fn check_tags(
 }
 
 /// The type of the item with an index, from those that the items have by themselves.
-fn type_of(items: &[Item], own: &[Type], index: usize) -> Result<Type, Fault> {
+fn type_of(items: &[Item], own: &[Type], index: usize) -> Result<Type, Fault>
+    ensures { IfOk result (λ t. IsTypeAt items.now own.now index t) }
+{
     let base = base_of(items, index)?;
-    Ok(tagged_type(base.tag, type_at(own, base.end), type_at(own, base.tagged)))
-}
-
-fn type_at(own: &[Type], index: usize) -> Type {
-    match own.get(index) {
-        Some(kind) => *kind,
-        None => Type::Any,
-    }
+    Ok(tagged_type(own, base))
 }

@@ -91,8 +91,11 @@ impl<T: Drop> From<AllocFailed<T>> for Fault {
 
 pub(crate) const OUT_OF_MEMORY: Fault = Fault {
     problem: Problem::OutOfMemory,
-    place: Place { text: 0, offset: 0 },
+    place: START,
 };
+
+/// Where the first text begins.
+pub(crate) const START: Place = Place { text: 0, offset: 0 };
 
 impl Place {
     /// A fault at this place.

@@ -2,7 +2,7 @@
 ghost use Rattle.std.specs.Prelude.{◌≡◌};
 ghost use Rattle.asn1_types.specs.UniversalTags.{class_of, plain, shape_of, universal_form, universal_number};
 
-use crate::error::Place;
+use crate::error::{Fault, Place, Problem, START};
 use asn1_modules::{Kind, SimpleType, TagClass};
 use der_schema::schema::{Class, Form};
 
@@ -70,7 +70,7 @@ pub(crate) const SET: u32 = 17;
 
 /// What a type is that has nothing inside, and no name to look up.
 pub(crate) fn plain_shape(kind: Kind<'static>) -> Shape
-    ensures { result ≡ shape_of kind }
+    ensures { result ≡ shape_of kind.entry }
 {
     match kind {
         Kind::Simple(simple) => Shape::Plain(simple_tag(simple)),
@@ -195,5 +195,13 @@ pub(crate) fn class_of(class: TagClass) -> Class
         TagClass::Application => Class::Application,
         TagClass::ContextSpecific => Class::ContextSpecific,
         TagClass::Private => Class::Private,
+    }
+}
+
+/// A fault at the item with an index.
+pub(crate) fn fault_at(items: &[Item], index: usize, problem: Problem) -> Fault {
+    match items.get(index) {
+        Some(item) => item.place.fault(problem),
+        None => START.fault(problem),
     }
 }

@@ -1,7 +1,7 @@
 //! Types of the schema, made of modules of ASN.1 (X.680).
 //!
-//! `Types::from_texts` reads modules, looks names up, and applies tags. Each type then has an index, by which `KnownType`
-//! and the components of other types refer to it.
+//! `Types::from_texts` reads modules, looks names up, and applies tags. Each type then has an index, by which a
+//! `KnownType` and the components of other types refer to it.
 //!
 //! These become any element: ANY, a field of an object class such as `CLASS.&Type`, INSTANCE OF, a type with parameters
 //! and a reference with parameters, since what they are is said by values or by a parameter. A CHOICE with such an

@@ -1,9 +1,9 @@
 //! The components of each SEQUENCE and SET, and the alternatives of each CHOICE.
 ghost use Rattle.std.specs.Prelude.{◌≡◌, slice_get};
-ghost use Rattle.asn1_types.specs.Tagging.{has_automatic_tags, is_tagged};
+ghost use Rattle.asn1_types.specs.Tagging.{are_untagged, has_automatic_tags, is_tagged};
 
 use crate::error::{Fault, MOST_COPIES, MOST_STEPS, Problem};
-use crate::item::{Item, Shape};
+use crate::item::{Item, Shape, fault_at};
 use crate::tags::base_of;
 use der_schema::schema::Class;
 use std::alloc::{AllocError, Global};
@@ -182,12 +182,26 @@ fn own_members(alloc: Global, items: &[Item], list: usize) -> Result<Vec<Member>
 /// Whether the members of a list have automatic tags: its module says so, and no member has a tag (25.3, 25.7, 27.4,
 /// 29.3).
 fn is_automatic(items: &[Item], list: usize, own: &[Member]) -> bool
-    ensures { result ≡ has_automatic_tags items.now (slice_get items.now list) own.now }
+    ensures { result ≡ has_automatic_tags (slice_get items.now list) (are_untagged items.now own.now) }
 {
     match items.get(list) {
-        Some(item) => item.automatic && own.iter().all(|member| !is_tagged(items, member.item)),
-        None => false,
+        Some(item) if item.automatic => are_untagged(items, own),
+        _ => false,
     }
+}
+
+/// Whether no member has a tag in the text.
+fn are_untagged(items: &[Item], members: &[Member]) -> bool
+    ensures { result ≡ are_untagged items.now members.now }
+{
+    let mut ahead = members;
+    while let Some((member, rest)) = ahead.split_first() {
+        if is_tagged(items, member.item) {
+            return false;
+        }
+        ahead = rest;
+    }
+    true
 }
 
 /// Whether the item with an index has a tag in the text.
@@ -217,7 +231,7 @@ fn replaced(
         }
         (Shape::Choice, _) if !automatic => {
             let base = base_of(items, member)?;
-            match (shape_at(items, base.end), base.tag) {
+            match (shape_at(items, base.end), base.tags) {
                 (Shape::Choice, None) => Ok(Some(base.end)),
                 _ => Ok(None),
             }
@@ -256,13 +270,6 @@ fn root_count(members: &[Member]) -> u32 {
         }
     }
     count
-}
-
-pub(crate) fn fault_at(items: &[Item], index: usize, problem: Problem) -> Fault {
-    match items.get(index) {
-        Some(item) => item.place.fault(problem),
-        None => Fault::from(AllocError),
-    }
 }
 
 /// Replaces selection types by references to the alternative that they select (30.1).

@@ -38,7 +38,7 @@ pub struct ModuleTypes {
 }
 
 impl Types {
-    /// Reads texts of modules, which may import from each other. The texts and types are never freed, so a program reads
+    /// Reads texts of modules, which may import from each other. The texts and types are never freed: a program reads
     /// its modules once.
     pub fn from_texts(alloc: Global, texts: &[&[u8]]) -> Result<Types, TypesError> {
         let kept: &'static [&'static [u8]] = match keep_texts(alloc, texts) {

@@ -11,10 +11,14 @@ const FAULTS: &[(&str, &str)] = &[
     ("IMPORTS B FROM N;\nA ::= B", "line 1, column 40: no text has module N"),
     ("A ::= NULL\nA ::= NULL", "line 2, column 1: A is defined twice"),
     ("A ::= B B ::= A", "line 1, column 31: a type is defined by itself, or through more than 64 names and tags"),
-    ("A ::= CHOICE { a A }", "line 1, column 40: a type is defined by itself, or through more than 64 names and tags"),
-    ("A ::= CHOICE { a A, b A }", "line 1, column 40: a type is defined by itself, or through more than 64 names and tags"),
-    ("A ::= [0] IMPLICIT A", "line 1, column 31: a type is defined by itself, or through more than 64 names and tags"),
-    ("A ::= SEQUENCE { COMPONENTS OF A }", "line 1, column 42: a type is defined by itself, or through more than 64 names and tags"),
+    ("A ::= CHOICE { a A }",
+        "line 1, column 40: a type is defined by itself, or through more than 64 names and tags"),
+    ("A ::= CHOICE { a A, b A }",
+        "line 1, column 40: a type is defined by itself, or through more than 64 names and tags"),
+    ("A ::= [0] IMPLICIT A",
+        "line 1, column 31: a type is defined by itself, or through more than 64 names and tags"),
+    ("A ::= SEQUENCE { COMPONENTS OF A }",
+        "line 1, column 42: a type is defined by itself, or through more than 64 names and tags"),
     ("A ::= SEQUENCE { COMPONENTS OF B } B ::= SET {}",
         "line 1, column 42: COMPONENTS OF has another type than the list around it"),
     ("A ::= CHOICE { a NULL, b B } B ::= CHOICE { c INTEGER, d NULL }",
@@ -42,7 +46,8 @@ fn faults(rt: HostRuntime) -> Result<(), AllocError> {
 #[test]
 fn several_texts(rt: HostRuntime) -> Result<(), AllocError> {
     let first: &[u8] = b"M DEFINITIONS ::= BEGIN IMPORTS T, n FROM N; A ::= [n] IMPLICIT T END";
-    let second: &[u8] = b"O DEFINITIONS ::= BEGIN T ::= NULL END\nN DEFINITIONS ::= BEGIN IMPORTS T FROM O; n T ::= 3 END";
+    let second: &[u8] = b"O DEFINITIONS ::= BEGIN T ::= NULL END\n\
+        N DEFINITIONS ::= BEGIN IMPORTS T FROM O; n T ::= 3 END";
     match Types::from_texts(rt.alloc(), &[first, second]) {
         Ok(types) => {
             let written = format!(in rt.alloc(); "{types}")?;

@@ -1,9 +1,8 @@
 //! The names that types of modules give elements, beside those of der_known, and what modules become.
 //!
 //! The arguments are files of modules. A line of input has the name of a type, and the octets behind a semicolon. For
-//! each type a line of output has the number of inputs, of elements that have the same name by both, and of those that
-//! the module names otherwise or not at all. Types of which no module says are left out. Names are compared in any case,
-//! since those of items are the types' in modules.
+//! each type that a module has, a line of output has the number of inputs, and how many elements the module names
+//! otherwise, or not at all. Names are compared in any case, since those of items are the types' in modules.
 
 use anyhow::{Context, Result};
 use asn1_types::Types;
@@ -51,7 +50,11 @@ fn main(rt: HostRuntime) -> Result<()> {
     }
     for (name, count) in &counts {
         let Counts { inputs, same, others } = *count;
-        println!(rt; "{name}: {inputs} inputs, {same} elements of the same name, {others} of others")?;
+        match (same, others) {
+            (0, _) => println!(rt; "{name}: {inputs} inputs, no name")?,
+            (_, 0) => println!(rt; "{name}: {inputs} inputs, no other name")?,
+            _ => println!(rt; "{name}: {inputs} inputs, {others} other names")?,
+        }
     }
     Ok(())
 }

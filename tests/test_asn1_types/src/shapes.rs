@@ -1,7 +1,7 @@
 //! What modules become: rows of a module's tagging, its types, the type that is asked, and what it is.
 //!
-//! A type is its tag (U, A, P for its class) with `+` if it is constructed, or `*` if it may be both, and the components
-//! inside it: `{}` in this order, `()` in any order, `[]` the item, `//` in a string, `<>` alternatives.
+//! A type is its tag (U, A, P for its class) with `+` if it is constructed, or `*` if it may be both, and the
+//! components inside it: `{}` in this order, `()` in any order, `[]` the item, `//` in a string, `<>` alternatives.
 
 use crate::texts::text_of;
 use std::alloc::AllocError;
@@ -48,7 +48,8 @@ const SHAPES: &[(&str, &str, &str)] = &[
     ("", "A ::= SET { a NULL, b BOOLEAN }", "U17+(a:U5 b:U1)"),
     ("", "A ::= SEQUENCE OF a NULL", "U16+[a:U5]"),
     ("", "A ::= SET OF B B ::= NULL", "U17+[:U5]"),
-    ("", "A ::= SEQUENCE { a A OPTIONAL, b SEQUENCE OF A }", "U16+{a?:U16+{a?:U16+{a?:U16+{} b:U16+[]} b:U16+[:U16+{}]} b:U16+[:U16+{a?:U16+{} b:U16+[]}]}"),
+    ("", "A ::= SEQUENCE { a A OPTIONAL, b SEQUENCE OF A }",
+        "U16+{a?:U16+{a?:U16+{a?:U16+{} b:U16+[]} b:U16+[:U16+{}]} b:U16+[:U16+{a?:U16+{} b:U16+[]}]}"),
     ("", "A ::= CHOICE { a NULL, b B } B ::= [1] NULL", "<a:U5 b:1+{:U5}>"),
     ("", "A ::= CHOICE { a NULL, b B } B ::= CHOICE { c INTEGER, d C } C ::= CHOICE { e BOOLEAN }",
         "<a:U5 c:U2 e:U1>"),
@@ -68,7 +69,8 @@ const SHAPES: &[(&str, &str, &str)] = &[
     ("IMPLICIT TAGS", "A ::= [2] [1] EXPLICIT B B ::= C C ::= CHOICE { a NULL }", "2+{:<a:U5>}"),
     ("", "A ::= [2] IMPLICIT CHOICE { a NULL }", "2+{:<a:U5>}"),
     ("", "A ::= [2] IMPLICIT ANY", "2+{:ANY}"),
-    ("", "A ::= SEQUENCE { a [n] IMPLICIT NULL, b [m] IMPLICIT NULL } n INTEGER ::= 7 m INTEGER ::= n", "U16+{a:7 b:7}"),
+    ("", "A ::= SEQUENCE { a [n] IMPLICIT NULL, b [m] IMPLICIT NULL } n INTEGER ::= 7 m INTEGER ::= n",
+        "U16+{a:7 b:7}"),
     ("IMPLICIT TAGS", "A ::= SEQUENCE { a [0] A OPTIONAL }", "U16+{a?:0+{a?:0+{a?:0+{}}}}"),
     ("IMPLICIT TAGS", "A ::= [0] EXPLICIT A", "0+{:0+{:0+{:0+{}}}}"),
     // automatic tags: the examples of 25.8, notes 2 and 3, and the exceptions of 25.3, 29.3, 31.2.7 c
