@@ -12,7 +12,7 @@ use std::collections::BTreeSet;
 use std::slice;
 
 /// A component with this name.
-pub(crate) fn component(name: &'static str, optional: bool, kind: Type) -> Component {
+fn component(name: &'static str, optional: bool, kind: Type) -> Component {
     Component {
         name,
         optional,
@@ -22,8 +22,12 @@ pub(crate) fn component(name: &'static str, optional: bool, kind: Type) -> Compo
     }
 }
 
-/// The type of each item, with the components of all lists. The components live as long as the program.
-pub(crate) fn types_of(alloc: Global, items: &[Item], lists: &Lists) -> Result<Vec<Type>, Fault> {
+/// A component of the type of each item, with the components of all lists. They live as long as the program.
+pub(crate) fn types_of(
+    alloc: Global,
+    items: &[Item],
+    lists: &Lists,
+) -> Result<TypeReferences, Fault> {
     let inner = inner_components(alloc, items)?;
     let mut own = Vec::new(alloc);
     for (index, item) in items.iter().enumerate() {
@@ -35,11 +39,31 @@ pub(crate) fn types_of(alloc: Global, items: &[Item], lists: &Lists) -> Result<V
     }
     add_components(alloc, items, lists, &mut own)?;
     add_choices(alloc, items, lists, &mut own)?;
-    let mut types = Vec::new(alloc);
-    for (index, _) in items.iter().enumerate() {
-        types.push(type_of(items, &own, index)?)?;
+    let mut components = Vec::new(alloc);
+    for (index, item) in items.iter().enumerate() {
+        let kind = type_of(items, &own, index)?;
+        components.push(component(item.title, false, kind))?;
     }
-    Ok(types)
+    Ok(references(alloc, components.leak())?)
+}
+
+/// References to components.
+#[derive(Clone, Copy)]
+pub(crate) struct TypeReferences {
+    pub types: &'static [&'static Component],
+}
+
+/// References to these components.
+fn references(
+    alloc: Global,
+    components: &'static [Component],
+) -> Result<TypeReferences, AllocError> {
+    let mut types: Vec<&'static Component> = Vec::new(alloc);
+    for component in components {
+        types.push(component)?;
+    }
+    let types: &'static [&'static Component] = types.leak();
+    Ok(TypeReferences { types })
 }
 
 /// The components from an index up to another one, or none.

@@ -11,6 +11,8 @@ use der_schema::schema::{Class, Form};
 pub(crate) struct Item {
     /// The identifier of a component or an alternative, or empty.
     pub name: &'static str,
+    /// The name of an assigned type, or empty.
+    pub title: &'static str,
     pub place: Place,
     pub shape: Shape,
     /// The index of the type that is inside it, or that it refers to.

@@ -79,6 +79,7 @@ fn tagged(items: &mut Vec<Item>, member: Member) -> Result<Member, AllocError> {
     let item = Item {
         shape: Shape::Tagged(Class::ContextSpecific, number, false),
         inner: member.item,
+        title: "",
         ..*item
     };
     let index = items.len();
@@ -152,31 +153,65 @@ fn own_members(alloc: Global, items: &[Item], list: usize) -> Result<Vec<Member>
     let Some(around) = items.get(list) else {
         return Ok(members);
     };
-    let mut markers: usize = 0;
-    let mut in_brackets = false;
-    let first = list.saturating_add(1);
-    let Some(inside) = items.get(first..around.after) else {
-        return Ok(members);
+    let mut index = list.saturating_add(1);
+    let mut marked = Marked {
+        markers: 0,
+        brackets: 0,
     };
-    for (index, item) in inside.iter().enumerate() {
-        let level = item.depth.saturating_sub(around.depth);
-        if level == 1 {
-            in_brackets = matches!(item.shape, Shape::Additions);
+    for _ in index..around.after {
+        let Some(item) = items.get(index) else {
+            return Ok(members);
+        };
+        if around.after <= index {
+            return Ok(members);
         }
-        if matches!(item.shape, Shape::Extension) && level == 1 {
-            markers = markers.saturating_add(1);
-        } else if (level == 1 && !in_brackets) || (level == 2 && in_brackets) {
-            let addition = in_brackets || markers == 1;
+        if !marked.pass(item) {
+            let addition = marked.is_addition(index);
             members.push(Member {
                 name: item.name,
-                item: first.saturating_add(index),
+                item: index,
                 optional: item.optional || addition,
                 addition,
                 number: None,
             })?;
         }
+        index = next_index(item, index);
     }
     Ok(members)
+}
+
+/// The index of what follows an item in a list. The members in `[[ ]]` follow these.
+fn next_index(item: &Item, index: usize) -> usize {
+    if matches!(item.shape, Shape::Additions) {
+        return index.saturating_add(1);
+    }
+    item.after
+}
+
+/// What was passed in a list.
+#[derive(Clone, Copy)]
+struct Marked {
+    /// How many extension markers.
+    markers: usize,
+    /// Where the last additions in `[[ ]]` end.
+    brackets: usize,
+}
+
+impl Marked {
+    /// Passes an extension marker or `[[ ]]`. Returns whether it is one.
+    fn pass(&mut self, item: &Item) -> bool {
+        match item.shape {
+            Shape::Extension => self.markers = self.markers.saturating_add(1),
+            Shape::Additions => self.brackets = item.after,
+            _ => return false,
+        }
+        true
+    }
+
+    /// Whether the member with an index is an extension addition.
+    fn is_addition(&self, index: usize) -> bool {
+        self.markers == 1 || index < self.brackets
+    }
 }
 
 /// Whether the members of a list have automatic tags: its module says so, and no member has a tag (25.3, 25.7, 27.4,

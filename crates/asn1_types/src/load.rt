@@ -197,6 +197,11 @@ impl Loaded {
                 item.after = after;
             }
         }
+        for root in &self.roots {
+            if let Some(item) = items.get_mut(root.item) {
+                item.title = root.name;
+            }
+        }
         Ok(items)
     }
 
@@ -232,6 +237,7 @@ impl Loaded {
         let (shape, inner) = self.shape(alloc, node, source, place)?;
         Ok(Item {
             name: text_of(node.name),
+            title: "",
             place,
             shape,
             inner: inner.unwrap_or(index.saturating_add(1)),

@@ -1,5 +1,5 @@
 //! The types of modules.
-use crate::build::{component, types_of};
+use crate::build::types_of;
 use crate::error::{Fault, OUT_OF_MEMORY, TypesError, located};
 use crate::item::{SEQUENCE, SET};
 use crate::lists::{make_lists, select};
@@ -86,37 +86,14 @@ fn make_types(alloc: Global, texts: &'static [&'static [u8]]) -> Result<Types, F
     let mut items = loaded.items(alloc)?;
     select(alloc, &mut items)?;
     let lists = make_lists(alloc, &mut items)?;
-    let kinds = types_of(alloc, &items, &lists)?;
+    let references = types_of(alloc, &items, &lists)?;
     let roots = loaded.types_among(alloc, &items)?;
     let known = known_types(alloc, &roots)?;
     Ok(Types {
         modules: module_types(alloc, &loaded.modules, &roots, known)?,
         known,
-        types: components_of(alloc, &roots, &kinds)?,
+        types: references.types,
     })
-}
-
-/// A component for each type. Those of assigned types have their names.
-fn components_of(
-    alloc: Global,
-    roots: &[Root],
-    kinds: &[Type],
-) -> Result<&'static [&'static Component], AllocError> {
-    let mut components = Vec::new(alloc);
-    for kind in kinds {
-        components.push(component("", false, *kind))?;
-    }
-    for root in roots {
-        if let Some(component) = components.get_mut(root.item) {
-            component.name = root.name;
-        }
-    }
-    let components: &'static [Component] = components.leak();
-    let mut types: Vec<&'static Component> = Vec::new(alloc);
-    for component in components {
-        types.push(component)?;
-    }
-    Ok(types.leak())
 }
 
 fn known_types(alloc: Global, roots: &[Root]) -> Result<&'static [KnownType], AllocError> {

@@ -24,12 +24,19 @@ mod shapes;
 mod texts;
 
 /// How many inputs of a type there are, and elements of them.
-#[derive(Clone, Copy, Default)]
+#[derive(Clone, Copy)]
 struct Counts {
     inputs: usize,
     same: usize,
     others: usize,
+    /// A name by the module, and another one by der_known.
+    sample: (&'static str, &'static str),
 }
+
+/// The names of elements that are ANY in a module. An identifier gives them other names in der_known.
+const ANY_ELEMENTS: &[&str] = &["parameters", "AttributeValue"];
+
+const NONE: Counts = Counts { inputs: 0, same: 0, others: 0, sample: ("", "") };
 
 fn main(rt: HostRuntime) -> Result<()> {
     let types = types_of_files(&rt)?;
@@ -44,16 +51,17 @@ fn main(rt: HostRuntime) -> Result<()> {
         let (Some(ours), Some(theirs)) = (types.type_named(name), known.type_named(name)) else {
             continue;
         };
-        let count = counts.entry(name)?.or_insert(Counts::default());
+        let count = counts.entry(name)?.or_insert(NONE);
         count.inputs = count.inputs.saturating_add(1);
         compare(&octets, ours, theirs, count);
     }
     for (name, count) in &counts {
-        let Counts { inputs, same, others } = *count;
+        let Counts { inputs, same, others, sample } = *count;
+        let (ours, theirs) = sample;
         match (same, others) {
             (0, _) => println!(rt; "{name}: {inputs} inputs, no name")?,
             (_, 0) => println!(rt; "{name}: {inputs} inputs, no other name")?,
-            _ => println!(rt; "{name}: {inputs} inputs, {others} other names")?,
+            _ => println!(rt; "{name}: {inputs} inputs, {others} other names, as {ours} for {theirs}")?,
         }
     }
     Ok(())
@@ -80,15 +88,20 @@ fn compare(octets: &[u8], ours: Schema<'_>, theirs: Schema<'_>, count: &mut Coun
     while let Ok(Some(element)) = walk.next_element() {
         let (ours, theirs) = (one.name_of(&element), other.name_of(&element));
         match (ours, theirs) {
-            (None, Some(_)) => count.others = count.others.saturating_add(1),
+            (None, Some(theirs)) => add_other(count, "none", theirs.text),
             (Some(ours), Some(theirs)) if element.depth > 0 && !ours.text.is_empty() => {
                 if ours.text.eq_ignore_ascii_case(theirs.text) {
                     count.same = count.same.saturating_add(1);
-                } else {
-                    count.others = count.others.saturating_add(1);
+                } else if !ANY_ELEMENTS.contains(&ours.text) {
+                    add_other(count, ours.text, theirs.text);
                 }
             }
             _ => {}
         }
     }
+}
+
+fn add_other(count: &mut Counts, ours: &'static str, theirs: &'static str) {
+    count.others = count.others.saturating_add(1);
+    count.sample = (ours, theirs);
 }
