@@ -18,7 +18,6 @@ use Rattle.asn1_modules.specs.declared.token.SimpleType.TheVariants.{VisibleStri
 use Rattle.asn1_modules.specs.declared.token.SimpleType.TheVariants.{UniversalString, BmpString}
 use Rattle.asn1_types.specs.declared.item.Shape.{Shape}
 use Rattle.asn1_types.specs.declared.item.Shape.TheVariants as Made
-use Rattle.asn1_types.specs.declared.item.UniversalTag.{UniversalTag}
 use Rattle.der_base.specs.declared.header.Class.{Class}
 use Rattle.der_base.specs.declared.header.Class.TheVariants.{Universal, Application, ContextSpecific, Private}
 use Rattle.der_schema.specs.declared.schema.Form.{Form}
