@@ -1,5 +1,6 @@
 -- How tags are applied (X.680 31.2), and when they are made (25.3, 25.7, 27.4, 29.3).
-use Rattle.std.specs.Prelude.{◌≡◌, ℕ, Bool, true, false, not, ◌&&◌, if◌then◌else◌, Option, Some, None, List, [], ◌∷◌, slice_get}
+use Rattle.std.specs.Prelude.{◌≡◌, ℕ, Bool, true, false, not, ◌&&◌, if◌then◌else◌}
+use Rattle.std.specs.Prelude.{Option, Some, None, List, [], ◌∷◌, slice_get}
 use Rattle.std.specs.List.{list_all}
 use Rattle.asn1_modules.specs.declared.syntax.TagDefault.{TagDefault}
 use Rattle.asn1_modules.specs.declared.syntax.TagDefault.TheVariants as Module

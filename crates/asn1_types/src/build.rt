@@ -98,8 +98,8 @@ fn inner_components(alloc: Global, items: &[Item]) -> Result<&'static [Component
     Ok(components.leak())
 }
 
-/// The type of an item by itself, unless it is a list. `inner` is the component of the type inside it. A tag is explicit
-/// (X.690 8.14.2).
+/// The type of an item by itself, unless it is a list. `inner` is the component of the type inside it. A tag is
+/// explicit (X.690 8.14.2).
 fn own_type(shape: Shape, inner: &'static Component) -> Type
     ensures { IsOwnType shape inner.now result }
 {
