@@ -159,15 +159,15 @@ pub(crate) fn located(text: &[u8], fault: Fault) -> ModuleError
     }
 }
 
-/// The number of the line after a text.
-fn line_after(text: &[u8]) -> usize
+/// The number of the line after a text, from 1.
+pub fn line_after(text: &[u8]) -> usize
     ensures { result ≡ 1 + count_by (λ c. c == 10) text.now }
 {
     1 + text.iter().filter(|octet| **octet == b'\n').count()
 }
 
-/// The number of the column after a text.
-fn column_after(text: &[u8]) -> usize
+/// The number of the column after a text, from 1, in octets.
+pub fn column_after(text: &[u8]) -> usize
     ensures { result ≡ 1 + suffix_len (λ c. not (c == 10)) text.now }
 {
     let mut column = 1;

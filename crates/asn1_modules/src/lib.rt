@@ -4,6 +4,7 @@
 //! constraint, an object class, an object or an object set says is kept as a part of the text.
 #![tactic(auto)]
 
+mod constraint;
 mod fault;
 mod lexer;
 mod parser;
@@ -11,7 +12,8 @@ mod syntax;
 mod token;
 mod words;
 
-pub use fault::{Expected, Found, ModuleError, Problem};
+pub use constraint::contained_name;
+pub use fault::{Expected, Found, ModuleError, Problem, column_after, line_after};
 pub use parser::read_modules;
 pub use syntax::{
     Arc, Assignment, AssignmentKind, Exports, Import, Kind, Module, NamedValue, Node, Number,
