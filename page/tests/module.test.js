@@ -62,6 +62,22 @@ test("a text that is longer than its buffer is asked for again", () => {
   assert.equal(text, written);
 });
 
+test("a form in DER that is longer than its buffer is asked for again", () => {
+  const needed = 40;
+  const rooms = [];
+  const reader = Object.create(Reader.prototype);
+  const page_canonical = (input, length, out, room, outcome) => {
+    rooms.push(Number(room));
+    reader.view.setBigUint64(Number(outcome), BigInt(needed), true);
+    new Uint8Array(reader.memory.buffer).fill(7, Number(out), Number(out) + Math.min(needed, Number(room)));
+    return 0;
+  };
+  Object.assign(reader, { memory: { buffer: new ArrayBuffer(256) }, end: 64, outcome: 8, calls: { page_canonical } });
+  const given = { reader, octets: new Uint8Array(2), input: [0n, 2n] };
+  assert.deepEqual([...Elements.prototype.canonical.call(given).octets], Array(needed).fill(7));
+  assert.equal(rooms.at(-1), needed);
+});
+
 withModule("the rows of elements (X.690 8.1)", () => {
   const elements = elementsIn("30 80 05 00 45 00 85 00 c5 00 9f 81 00 00 04 02 05 00 04 04 30 80 00 00 0c 01 ff 00 00");
   const rows = Array.from({ length: elements.count }, (_, number) => elements.row(number));
