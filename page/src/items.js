@@ -96,10 +96,7 @@ export class Items {
       return [end, end];
     }
     let last = begin;
-    for (let k = item + 1; k < this.after[item]; k = this.after[k]) {
-      if (this.kind[k] === REFUSAL) return [whole, whole];
-      last = this.end[k];
-    }
+    for (let k = item + 1; k < this.after[item]; k = this.after[k]) last = this.end[k];
     const isCut = outcome.isRefused && this.after[item] === this.documentEnd(item);
     return isCut ? [whole, whole] : [last, last + END_OCTETS];
   }
@@ -144,7 +141,7 @@ export class Items {
   }
 
   openAll(isOpen) {
-    for (let item = 0; item < this.count; item++) this.isOpen[item] = isOpen || !this.hasInside(item) ? 1 : 0;
+    this.isOpen.fill(isOpen ? 1 : 0);
     this.show();
   }
 

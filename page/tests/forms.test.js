@@ -119,6 +119,8 @@ test("a dump has the lines that it leaves out", () => {
     ["0000000", "0000016", "0000096", "0000102"],
   ];
   for (const words of dumps) assert.deepEqual(octetsIn(withAllLines(dumpOf(...words))), whole, words[1]);
+  const long = octetsIn(withAllLines(dumpOf("000000", "000010", "100000", "100006")));
+  assert.deepEqual([long.length, long.at(-2), long.at(-1)], [0x100000 / 16 + 1, zeros, "00 00 00 00 05 00"]);
   const crlf = dumpOf(...dumps[0]).replaceAll("\n", "\r\n");
   assert.deepEqual(octetsIn(withAllLines(crlf)), whole);
 });
@@ -128,6 +130,7 @@ test("a dump whose offsets don't fit stays as it is", () => {
     dumpOf("000000", "000010", "000061", "000066"), dumpOf("000000", "000011", "000060", "000066"),
     dumpOf("000000", "000010", "fffffff0", "fffffff6"), dumpOf("000000", "000010", "000060", "000066").replace("*", "**"),
     "*", "0a\n*\n0b 05",
+    dumpOf("000000", "000010", "000060", "000080 05").replace("00 05 00", `00 05${" 00".repeat(11)}`),
   ];
   for (const text of wrong) assert.equal(withAllLines(text), text);
 });

@@ -3,7 +3,7 @@ import assert from "node:assert/strict";
 import { readFileSync } from "node:fs";
 import test from "node:test";
 import { documentsOfFile, documentsOfText } from "../src/forms.js";
-import { BER, DER, ERRORS, FORMS, Reader, rowIn } from "../src/module.js";
+import { BER, DER, Elements, ERRORS, FORMS, Reader, rowIn } from "../src/module.js";
 import { octetsOf } from "./elements.js";
 
 const DATA = new URL("../../crates/der/data/", import.meta.url);
@@ -39,6 +39,43 @@ test("a row in memory", () => {
   assert.deepEqual(flags(0, 0, 0, 2, 0)[3], "BER");
   const { offset, header, length, depth, index, around, number } = rowIn(view, 8);
   assert.deepEqual([offset, header, length, depth, index, around, number], [11, 12, 13, 14, 15, 2 ** 40, 0xfffffffe]);
+});
+
+test("the content and the field of a row", () => {
+  const { contentOf, fieldOf } = Elements.prototype;
+  const contentIn = (hex, row) => [...contentOf.call({ octets: octetsOf(hex) }, { header: 2, ...row })];
+  assert.deepEqual(contentIn("05 00 02 01 07 05 00", { offset: 2, length: 1 }), [7]);
+  assert.deepEqual(contentIn("02 03 07", { offset: 0, length: 3 }), [7]);
+  const fields = { type: "T", names: ["", "a", "b"] };
+  assert.deepEqual([0, 1, 2, 3].map((number) => fieldOf.call({ fields }, number)), ["", "a", "b", ""]);
+});
+
+test("a text that is longer than its buffer is asked for again", () => {
+  const written = "a text of 21 octets..";
+  const reader = Object.create(Reader.prototype);
+  Object.assign(reader, { memory: { buffer: new ArrayBuffer(256) }, end: 64, room: { at: 0, size: 20 } });
+  const text = reader.text((at, room) => {
+    const part = new TextEncoder().encode(written).subarray(0, Number(room));
+    new Uint8Array(reader.memory.buffer).set(part, Number(at));
+    return written.length;
+  });
+  assert.equal(text, written);
+});
+
+test("a form in DER that is longer than its buffer is asked for again", () => {
+  const needed = 40;
+  const rooms = [];
+  const reader = Object.create(Reader.prototype);
+  const page_canonical = (input, length, out, room, outcome) => {
+    rooms.push(Number(room));
+    reader.view.setBigUint64(Number(outcome), BigInt(needed), true);
+    new Uint8Array(reader.memory.buffer).fill(7, Number(out), Number(out) + Math.min(needed, Number(room)));
+    return 0;
+  };
+  Object.assign(reader, { memory: { buffer: new ArrayBuffer(256) }, end: 64, outcome: 8, calls: { page_canonical } });
+  const given = { reader, octets: new Uint8Array(2), input: [0n, 2n] };
+  assert.deepEqual([...Elements.prototype.canonical.call(given).octets], Array(needed).fill(7));
+  assert.equal(rooms.at(-1), needed);
 });
 
 withModule("the rows of elements (X.690 8.1)", () => {

@@ -18,8 +18,8 @@ use der_input::FormError;
 use der_known::KnownTypes;
 use der_schema::Schema;
 use std::alloc::Global;
-use std::io;
 use std::io::Write;
+use std::{fmt, io};
 use text_json::fields::{Named, fit_of};
 
 /// Whether octets are one or more valid elements by these rules, and nothing else.
@@ -73,6 +73,26 @@ pub fn report_fault<W: Write>(
     Ok(true)
 }
 
+/// Why an input or a block can't be decoded. Text that is detected as base64 isn't of another form either.
+#[derive(Clone, Copy)]
+pub struct Undecoded<'a> {
+    pub origin: Origin<'a>,
+    pub error: FormError,
+    /// Whether the form is detected, and not given.
+    pub is_detected: bool,
+}
+
+impl fmt::Display for Undecoded<'_> {
+    fn fmt<W: fmt::Write>(&self, f: &mut fmt::Formatter<W>) -> fmt::Result {
+        let (origin, error) = (self.origin, self.error);
+        write!(f, "{origin}: ")?;
+        if self.is_detected && origin.block.is_none() && matches!(error, FormError::Base64(_)) {
+            f.write_str("not DER, PEM or hexadecimal digits, and ")?;
+        }
+        write!(f, "{error}")
+    }
+}
+
 /// Reports an input or a block that can't be decoded.
 pub fn refuse_form<W: Write, X: Write>(
     options: &Options<'_>,
@@ -87,13 +107,18 @@ pub fn refuse_form<W: Write, X: Write>(
     ensures loud { options.now.action ≡ Action.Check → err.new ≡ err.old }
     ensures none { options.now.action ≡ Action.Check → options.now.is_quiet ≡ true → out.new ≡ out.old }
 {
+    let why = Undecoded {
+        origin,
+        error: e,
+        is_detected: options.form.is_none(),
+    };
     if options.action == Action::Check {
         if !options.is_quiet {
-            writeln!(out, "der: {origin}: {e}")?;
+            writeln!(out, "der: {why}")?;
         }
     } else {
         out.flush()?;
-        writeln!(err, "der: {origin}: {e}")?;
+        writeln!(err, "der: {why}")?;
     }
     Ok(false)
 }

@@ -1,15 +1,20 @@
 -- What is read of the arguments.
-use Rattle.std.proofs.Common.{◌≡◌, ◌∙◌, ◌∷◌, ℕ, Bool, true, false, List, Option, Some, None, Ok, Err, Result, IfSome, MatchOption, ap, codes, refl, subst, sym}
+use Rattle.std.proofs.Common.{◌≡◌, ◌∙◌, ◌∷◌, ℕ, Bool, true, false, List, Option, Some, None, Ok, Err, Result, IfSome, MatchOption, ap, codes, option_map, refl, subst, sym}
 use Rattle.std.specs.Prelude.{unwrap_or}
+use Rattle.std.specs.Borrow.{Bor}
 use Rattle.std.specs.Option.{option_map_or}
 use Rattle.std.specs.Result.{result_ok}
 use Rattle.std.specs.Str.{bytes_eq}
 use Rattle.std.specs.Str.Parse.{ParsesBool, ParsesUnsigned}
 use Rattle.std.proofs.lemmas.Bool.{false_from_ne_true}
 use Rattle.std.proofs.lemmas.Slice.Eq.{bytes_eq-Decides}
-use Rattle.clap.specs.Words.{ReadsOne}
+use Rattle.clap.specs.Words.{ReadsOne, Row}
 use Rattle.der_input.specs.declared.form.Form.{Form}
-use Rattle.der_cli.specs.Arguments.{IsNumberIn, IsOffsetIn, NamesForm, form_word}
+use Rattle.der_print.specs.declared.style.Style.{Style}
+use Rattle.der_actions.specs.declared.options.Action.{Action}
+use Rattle.der_actions.specs.declared.options.Options.{Options}
+use Rattle.der_cli.specs.Arguments.{Asks, IsNumberIn, IsOffsetIn, NamesForm, form_word}
+use Rattle.der_cli.specs.Runs.{IsAsked}
 
 -- a flag is the word `true`
 pub flag_is : (E : Type 0) (word : Option (List ℕ)) (r : Option Bool) → (word ≡ None → r ≡ None) → ((t : List ℕ) → word ≡ Some t → ReadsOne {E = E} ParsesBool t r)
@@ -45,3 +50,29 @@ form_is word None found only = λ f same.
     let named : word ≡ form_word f = cc in
     let none : None ≡ Some f = found f named in
     cc
+
+-- a word is given, since without one there is a value
+pub word_given : {N : Type 0} (word : Option (Bor (List ℕ))) (found : Option (List ℕ)) (r : Option N) (d : N) → option_map (λ s. s.now) word ≡ found → (word ≡ None → r ≡ Some d)
+    → r ≡ None → (w : List ℕ) × (found ≡ Some w)
+word_given None found r d same unsaid none =
+    let some : r ≡ Some d = unsaid refl in
+    cc
+word_given (Some s) found r d same unsaid none = (s.now, sym same)
+
+given_stays : (p q : Option ℕ) → ((n : ℕ) → p ≡ Some n → q ≡ p) → IfSome p (λ n. q ≡ Some n)
+given_stays None q stays = tt
+given_stays (Some n) q stays = stays n refl
+
+-- options are those that are asked for, but for the type, the table and the time
+pub is_asked : (a : Action) (rows : List Row) (terminal : Style) (asked r o : Options) → Asks a rows terminal asked → r ≡ record asked { present = r.present }
+    → ((n : ℕ) → asked.present ≡ Some n → r ≡ asked) → o ≡ record r { naming = o.naming; own_names = o.own_names } → IsAsked a rows terminal o
+is_asked a rows terminal asked r o asks same given other =
+    let present : o.present ≡ r.present = ap (λ (x : Options). x.present) other in
+    record {
+      asked = asked;
+      asks = asks;
+      others =
+          other ∙ ap (λ (x : Options). record x { naming = o.naming; own_names = o.own_names }) same
+          ∙ ap (λ (p : Option ℕ). record asked { naming = o.naming; own_names = o.own_names; present = p }) (sym present);
+      present = given_stays asked.present o.present (λ n e. present ∙ ap (λ (x : Options). x.present) (given n e));
+    }

@@ -1,3 +1,4 @@
 pub mod Asking
 pub mod Refusing
 pub mod Showing
+pub mod Taking

@@ -1,6 +1,18 @@
 -- The count of files.
-use Rattle.std.specs.Prelude.{◌==◌, ◌&&◌, nat_lt, Bool}
+use Rattle.std.specs.Prelude.{◌==◌, ◌&&◌, nat_lt, Bool, true, false}
+use Rattle.der_cli.specs.declared.summary.Outcome.{Outcome}
+use Rattle.der_cli.specs.declared.summary.Outcome.TheVariants.{Accepted, Rejected, Unread}
 use Rattle.der_cli.specs.declared.summary.Summary.{Summary}
+
+-- what became of a file that was read
+abbrev pub outcome_of : Bool → Outcome
+outcome_of true = Accepted
+outcome_of false = Rejected
+
+abbrev pub is_accepted : Outcome → Bool
+is_accepted Accepted = true
+is_accepted Rejected = false
+is_accepted Unread = false
 
 -- whether each file that was counted was read and accepted
 abbrev pub are_accepted : Summary → Bool

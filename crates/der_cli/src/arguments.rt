@@ -43,7 +43,7 @@ pub(crate) fn options_of<'a>(
 }
 
 /// Whether a flag is given.
-fn has_flag(matches: &ArgMatches<'_>, name: &str) -> bool
+pub(crate) fn has_flag(matches: &ArgMatches<'_>, name: &str) -> bool
     ensures { result ≡ has_flag (rows_of (found_of matches.now)) name.now }
 {
     matches.get_one::<bool>(name).unwrap_or(false)

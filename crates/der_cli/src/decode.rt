@@ -7,6 +7,7 @@ ghost use Rattle.der_cli.specs.Inputs.{Decodes, IsDecoded, JoinsBlocks};
 use crate::run::form_in;
 use der_actions::label::shown_label;
 use der_actions::origin::{BlockName, Origin};
+use der_actions::report::Undecoded;
 use der_input::{Block, Form, FormError, decode_base64, decode_hex, next_block};
 use std::alloc::Global;
 use std::io;
@@ -24,8 +25,8 @@ pub(crate) fn octets_in<X: Write>(
 {
     match form_in(asked, input) {
         Ok(Form::Pem) => octets_of_blocks(alloc, origin, input, err),
-        Ok(form) => octets_or_report(origin, decoded(alloc, form, input), err),
-        Err(e) => octets_or_report(origin, Err(e), err),
+        Ok(form) => octets_or_report(asked, origin, decoded(alloc, form, input), err),
+        Err(e) => octets_or_report(asked, origin, Err(e), err),
     }
 }
 
@@ -42,6 +43,7 @@ fn decoded(alloc: Global, form: Form, input: &[u8]) -> Result<Vec<u8>, FormError
 
 /// Octets that were decoded. None if they weren't, which is reported.
 fn octets_or_report<X: Write>(
+    asked: Option<Form>,
     origin: Origin<'_>,
     decoded: Result<Vec<u8>, FormError>,
     err: &mut X,
@@ -52,7 +54,12 @@ fn octets_or_report<X: Write>(
         Ok(octets) => Ok(Some(octets)),
         Err(FormError::OutOfMemory) => Err(io::Error::from(ErrorKind::OutOfMemory)),
         Err(e) => {
-            writeln!(err, "der: {origin}: {e}")?;
+            let why = Undecoded {
+                origin,
+                error: e,
+                is_detected: asked.is_none(),
+            };
+            writeln!(err, "der: {why}")?;
             Ok(None)
         }
     }
@@ -96,7 +103,7 @@ fn report_nothing<X: Write>(
 ) -> io::Result<Option<Vec<u8>>>
     ensures { IfOk result (λ found. IfSome found (λ _. ⊥)) }
 {
-    octets_or_report(origin, Err(error), err)
+    octets_or_report(Some(Form::Pem), origin, Err(error), err)
 }
 
 /// The octets of a block with this many blocks before it. None if it can't be decoded, which is reported.
@@ -119,5 +126,5 @@ fn octets_of_block<'x, X: Write>(
         name: origin.name,
         block: Some(name),
     };
-    octets_or_report(origin, block.decode(alloc), err)
+    octets_or_report(Some(Form::Pem), origin, block.decode(alloc), err)
 }

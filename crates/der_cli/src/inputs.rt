@@ -1,17 +1,19 @@
 //! The files to read, and standard input.
-ghost use Rattle.std.specs.Prelude.{◌≡◌, ◌≤◌, IfOk, codes, unwrap_or};
+ghost use Rattle.std.specs.Prelude.{◌≡◌, ◌≢◌, ◌≤◌, IfOk, codes, false, length, map, nat_lt, string_bytes, unwrap_or};
 ghost use Rattle.clap.specs.Words.{first_of, found_of, rows_of};
 ghost use Rattle.der_actions.specs.declared.options.Action.{Action};
 ghost use Rattle.der_cli.specs.Arguments.{Asks};
+ghost use Rattle.der_cli.specs.Counts.{are_accepted, outcome_of};
 ghost use Rattle.der_cli.specs.Inputs.{IsReadFrom, shown_name};
 ghost use Rattle.der_cli.specs.Statuses.{IsStatusOf};
+ghost use Rattle.der_cli.specs.Taken.{RunsFiles, TakesFile, TakesFiles, among, has_summary};
 
 use crate::arguments::{form_named, options_of, word_of};
 use crate::decode::octets_in;
 use crate::folders::list_files;
 use crate::run::run;
 use crate::status::{TROUBLE, status_of_comparison};
-use crate::summary::Summary;
+use crate::summary::{Outcome, Summary};
 use clap::ArgMatches;
 use der_actions::diff::{Sides, compare};
 use der_actions::name::Name;
@@ -30,7 +32,7 @@ use std::rt::Files;
 use std::{fs, io};
 
 /// The name of standard input in messages.
-pub(crate) const STANDARD_INPUT: &str = "standard input";
+const STANDARD_INPUT: &str = "standard input";
 
 /// The name of standard input among files.
 pub(crate) const DASH: &str = "-";
@@ -45,45 +47,102 @@ pub(crate) fn run_files<R: Files + AllocGlobal + Clone + Drop, I: Read, W: Write
     input: &mut I,
     out: &mut W,
     err: &mut X,
-) -> io::Result<bool> {
+) -> io::Result<bool>
+    ensures { IfOk result (RunsFiles options.now (map (λ f. f.now) files.now) is_recursive (I.remaining input.old)
+        (W.contents out.old) (W.contents out.new)) }
+{
     let list = list_files(rt, files, is_recursive, err)?;
-    let options = Options {
-        has_several_files: list.names.len() > 1 || is_recursive,
-        ..*options
-    };
-    let mut summary = Summary::new(list.is_whole);
-    run_each(rt, &options, &list.names, &mut summary, input, out, err)?;
-    if options.action == Action::Check && options.has_several_files && !options.is_quiet {
-        summary.write(&options, out)?;
-    }
+    let options = among(options, list.names.len(), is_recursive);
+    let summary = run_each(rt, &options, &list.names, list.is_whole, input, out, err)?;
+    write_summary(&options, &summary, out)?;
     Ok(summary.is_good())
 }
 
-/// Runs the action on each file, and counts the file.
+/// The options for this many files, or for those in folders.
+fn among<'a>(options: &Options<'a>, count: usize, is_recursive: bool) -> Options<'a>
+    ensures { result ≡ among count is_recursive options.now }
+{
+    Options {
+        has_several_files: count > 1 || is_recursive,
+        ..*options
+    }
+}
+
+/// Writes the number of files after a check of several.
+fn write_summary<W: Write>(options: &Options<'_>, summary: &Summary, out: &mut W) -> io::Result<()>
+    ensures { has_summary options.now ≡ false → out.new ≡ out.old }
+{
+    if has_summary(options) {
+        return summary.write(options, out);
+    }
+    Ok(())
+}
+
+/// Whether the number of files is written after them.
+fn has_summary(options: &Options<'_>) -> bool
+    ensures { result ≡ has_summary options.now }
+{
+    matches!(options.action, Action::Check) && options.has_several_files && !options.is_quiet
+}
+
+/// Runs the action on each file, and counts the files. `is_whole` says whether all folders were read to their end and
+/// contain a file.
 fn run_each<R: Files + AllocGlobal, I: Read, W: Write, X: Write>(
     rt: &R,
     options: &Options<'_>,
     names: &[String],
-    summary: &mut Summary,
+    is_whole: bool,
     input: &mut I,
     out: &mut W,
     err: &mut X,
-) -> io::Result<()> {
+) -> io::Result<Summary>
+    ensures taken { IfOk result (λ summary. TakesFiles options.now (map string_bytes names.now) (I.remaining input.old)
+        (I.remaining input.new) (W.contents out.old) (W.contents out.new) (are_accepted summary)) }
+    ensures counted { IfOk result (λ summary. nat_lt 0 summary.files ≡ nat_lt 0 (length names.now)) }
+    ensures whole { IfOk result (λ summary. summary.is_whole ≡ is_whole) }
+{
+    let mut summary = Summary::new(is_whole);
     for name in names {
-        let name = name.as_str();
-        match read_file(rt, name, input) {
-            Ok(octets) => {
-                let is_read = run(rt.alloc(), options, shown(name), &octets, out, err)?;
-                summary.add(is_read);
-            }
-            Err(e) => {
-                out.flush()?;
-                report_unread(name, &e, err)?;
-                summary.add_unread();
-            }
+        let outcome = run_file(rt, options, name.as_str(), input, out, err)?;
+        summary.add(outcome);
+    }
+    Ok(summary)
+}
+
+/// Runs the action on a file.
+fn run_file<R: Files + AllocGlobal, I: Read, W: Write, X: Write>(
+    rt: &R,
+    options: &Options<'_>,
+    name: &str,
+    input: &mut I,
+    out: &mut W,
+    err: &mut X,
+) -> io::Result<Outcome>
+    ensures { IfOk result (TakesFile options.now name.now (I.remaining input.old) (I.remaining input.new)
+        (W.contents out.old) (W.contents out.new)) }
+{
+    match read_file(rt, name, input) {
+        Ok(octets) => {
+            let is_read = run(rt.alloc(), options, shown(name), &octets, out, err)?;
+            Ok(outcome_of(is_read))
+        }
+        Err(e) => {
+            out.flush()?;
+            report_unread(name, &e, err)?;
+            Ok(Outcome::Unread)
         }
     }
-    Ok(())
+}
+
+/// What became of a file that was read.
+fn outcome_of(is_accepted: bool) -> Outcome
+    ensures { result ≡ outcome_of is_accepted }
+{
+    if is_accepted {
+        Outcome::Accepted
+    } else {
+        Outcome::Rejected
+    }
 }
 
 /// The octets of a file, or of standard input.
@@ -92,7 +151,8 @@ fn read_file<R: Files + AllocGlobal, I: Read>(
     name: &str,
     input: &mut I,
 ) -> io::Result<Vec<u8>>
-    ensures { IfOk result (λ octets. IsReadFrom (I.remaining input.old) name.now octets.items) }
+    ensures read { IfOk result (λ octets. IsReadFrom (I.remaining input.old) name.now octets.items) }
+    ensures others { name.now ≢ codes "-" → I.remaining input.new ≡ I.remaining input.old }
 {
     if name != DASH {
         return fs::read(rt, name);

@@ -1,22 +1,19 @@
 //! The program over its streams.
-ghost use Rattle.std.specs.Prelude.{◌≡◌, ◌≢◌, ◌≤◌, ◌↔◌, IfErr, IfOk, IfSome, IsTrue, Some};
-ghost use Rattle.std.specs.Prelude.{codes};
+ghost use Rattle.std.specs.Prelude.{◌≡◌, ◌≢◌, ◌≤◌, IfOk, codes};
 ghost use Rattle.std.specs.IoError.{error_kind};
 ghost use Rattle.std.specs.Process.{exit_status};
 ghost use Rattle.std.specs.declared.io.ErrorKind.{ErrorKind};
-ghost use Rattle.clap.specs.Words.{kind_of};
-ghost use Rattle.der_input.specs.declared.form.Form.{Form};
-ghost use Rattle.der_cli.specs.Inputs.{ReadsInput};
-ghost use Rattle.der_actions.specs.Outputs.{IsChecked};
+ghost use Rattle.clap.specs.Words.{found_of, kind_of, rows_of};
+ghost use Rattle.der_cli.specs.Arguments.{has_flag};
+ghost use Rattle.der_cli.specs.Runs.{RunsAction, files_named};
 ghost use Rattle.der_cli.specs.Statuses.{IsStatus, IsStatusTold};
-ghost use Rattle.der_actions.specs.declared.options.Action.{Action};
+ghost use Rattle.der_cli.specs.Taken.{RunsFiles};
 
-use crate::arguments::{action_named, options_of};
+use crate::arguments::{action_named, has_flag, options_of, word_of};
 use crate::command::command;
-use crate::inputs::{STANDARD_INPUT, run_diff, run_files, run_octets, run_text};
+use crate::inputs::{DASH, run_diff, run_files, run_octets, run_text};
 use crate::own_names::{names_in, table_text};
 use crate::present::at_present;
-use crate::run::run;
 use crate::status::{CLOSED_PIPE, DONE, REFUSED, USAGE, status_of};
 use crate::terminal::style_of;
 use clap::ArgMatches;
@@ -26,7 +23,6 @@ use der_actions::report::report_unknown_type;
 use der_known::KnownTypes;
 use der_print::Style;
 use oid_names::OwnNames;
-use std::alloc::Global;
 use std::env::Env;
 use std::io::{BufWriter, ErrorKind, Read, Write};
 use std::process::ExitCode;
@@ -214,10 +210,12 @@ fn run_action<'n, 't, R: Files + Clock + AllocGlobal + Clone + Drop, I: Read, W:
     out: &mut W,
     err: &mut X,
 ) -> io::Result<u8>
-    ensures { IfOk result (λ status. status ≤ 2) }
+    ensures runs { IfOk result (RunsAction action (rows_of (found_of matches.now)) terminal (I.remaining input.old)
+        (W.contents out.old) (W.contents out.new)) }
+    ensures bounded { IfOk result (λ status. status ≤ 2) }
 {
     let types = KnownTypes::new();
-    let word = matches.get_str("as");
+    let word = word_of(matches, "as");
     let Some(naming) = naming_of(action, word, &types) else {
         report_unknown_type(word, &types, err)?;
         return Ok(USAGE);
@@ -240,30 +238,13 @@ fn run_inputs<R: Files + AllocGlobal + Clone + Drop, I: Read, W: Write, X: Write
     input: &mut I,
     out: &mut W,
     err: &mut X,
-) -> io::Result<bool> {
-    match matches.get_strs("file") {
-        Some(files) => {
-            let is_recursive = matches.get_flag("recursive");
-            run_files(rt, options, files, is_recursive, input, out, err)
-        }
-        None => run_reader(rt.alloc(), options, input, out, err),
-    }
-}
-
-/// Runs the action on standard input.
-fn run_reader<I: Read, W: Write, X: Write>(
-    alloc: Global,
-    options: &Options<'_>,
-    input: &mut I,
-    out: &mut W,
-    err: &mut X,
 ) -> io::Result<bool>
-    ensures checked { options.now.action ≡ Action.Check → options.now.form ≡ Some Form.Der → IfOk result
-        (λ ok. IfSome (I.remaining input.old) (λ octets. IsTrue ok ↔ IsChecked options.now octets)) }
-    ensures read { IfOk result (λ ok. IsTrue ok → IfSome (I.remaining input.old) (λ octets.
-        ReadsInput options.now (codes "standard input") octets (W.contents out.old) (W.contents out.new))) }
+    ensures { let rows = rows_of (found_of matches.now) in IfOk result (RunsFiles options.now (files_named rows)
+        (has_flag rows (codes "recursive")) (I.remaining input.old) (W.contents out.old) (W.contents out.new)) }
 {
-    let mut octets = Vec::new(alloc);
-    input.read_to_end(&mut octets)?;
-    run(alloc, options, STANDARD_INPUT, &octets, out, err)
+    let is_recursive = has_flag(matches, "recursive");
+    match matches.get_strs("file") {
+        Some(files) => run_files(rt, options, files, is_recursive, input, out, err),
+        None => run_files(rt, options, &[DASH], is_recursive, input, out, err),
+    }
 }

@@ -1,6 +1,6 @@
 //! The count of files that a check rejects.
-ghost use Rattle.std.specs.Prelude.{◌≡◌, ◌&&◌, ◌<◌, false};
-ghost use Rattle.der_cli.specs.Counts.{are_accepted, is_good};
+ghost use Rattle.std.specs.Prelude.{◌≡◌, ◌&&◌, ◌<◌};
+ghost use Rattle.der_cli.specs.Counts.{are_accepted, is_accepted, is_good};
 
 use der_actions::options::{Naming, Options};
 use der_elements::Rules;
@@ -27,6 +27,15 @@ impl fmt::Display for Asked<'_> {
     }
 }
 
+/// What became of a file.
+#[derive(Clone, Copy)]
+pub(crate) enum Outcome {
+    Accepted,
+    Rejected,
+    /// It can't be read.
+    Unread,
+}
+
 /// The number of files, and how many of them were rejected or can't be read.
 #[derive(Clone, Copy)]
 pub(crate) struct Summary {
@@ -50,26 +59,18 @@ impl Summary {
         }
     }
 
-    /// Counts a file that was read, and was accepted or not.
-    pub(crate) fn add(&mut self, is_read: bool)
+    /// Counts a file.
+    pub(crate) fn add(&mut self, outcome: Outcome)
         ensures counted { 0 < self.new.files }
-        ensures accepted { are_accepted self.new ≡ (are_accepted self.old && is_read) }
+        ensures accepted { are_accepted self.new ≡ (are_accepted self.old && is_accepted outcome) }
         ensures whole { self.new.is_whole ≡ self.old.is_whole }
     {
         self.files = self.files.saturating_add(1);
-        if !is_read {
-            self.refused = self.refused.saturating_add(1);
+        match outcome {
+            Outcome::Accepted => {}
+            Outcome::Rejected => self.refused = self.refused.saturating_add(1),
+            Outcome::Unread => self.unread = self.unread.saturating_add(1),
         }
-    }
-
-    /// Counts a file that can't be read.
-    pub(crate) fn add_unread(&mut self)
-        ensures counted { 0 < self.new.files }
-        ensures accepted { are_accepted self.new ≡ false }
-        ensures whole { self.new.is_whole ≡ self.old.is_whole }
-    {
-        self.files = self.files.saturating_add(1);
-        self.unread = self.unread.saturating_add(1);
     }
 
     /// Whether there is a file, and all were accepted.

@@ -6,5 +6,5 @@ all_read : (known : Option (List ℕ)) (old buf : List ℕ) → old ≡ [] → I
 all_read (Some xs) old buf none e = e ∙ ap (λ w. w ++ xs) none
 all_read None old buf none e = tt
 
-pub returns : goal.returns
-returns g c = λ dash. all_read (g.I.Read.remaining c.args.input.now) _ _ c.new-octets.ensures.items c.in_ok-read_to_end.ensures.bytes
+pub returns-clause-read : goal.returns-clause-read
+returns-clause-read g c = λ dash. all_read (g.I.Read.remaining c.args.input.now) _ _ c.new-octets.ensures.items c.in_ok-read_to_end.ensures.bytes
