@@ -6,16 +6,18 @@ use Rattle.der_show.specs.declared.unread.Unread.{Unread}
 use Rattle.der_show.specs.declared.words.Words.{Words}
 use Rattle.text_json.specs.declared.shown.object.Source.{Source}
 use Rattle.der_actions.specs.declared.options.Options.{Options}
-use Rattle.der_cli.specs.Shown.{AddsError, AddsFoundFrom, AddsText, AddsWordsFrom, words_object}
+use Rattle.der_cli.specs.Shown.{AddsError, AddsFoundFrom, AddsText, AddsWordsFrom, AddsWordsObject}
 
--- one of two texts
-kept_choice : (b : Bool) (x y : List ℕ) (old mid new : Option (List ℕ)) → MatchBool b (Appends old mid x) (Appends old mid y) → Keeps mid new
-    → MatchBool b (Appends old new x) (Appends old new y)
-kept_choice true x y old mid new adds keeps = Appends-kept old mid new x adds keeps
-kept_choice false x y old mid new adds keeps = Appends-kept old mid new y adds keeps
+-- an object or a text
+kept_choice : (b : Bool) (s : Source) (i : List ℕ) (w : Words) (old mid new : Option (List ℕ))
+    → MatchBool b (AddsWordsObject s i w old mid) (Appends old mid w.text.items) → Keeps mid new
+    → MatchBool b (AddsWordsObject s i w old new) (Appends old new w.text.items)
+kept_choice true s i w old mid new adds keeps = (adds.0, adds.1, Appends-kept old mid new (adds.0 ++ codes "\n") adds.2 keeps)
+kept_choice false s i w old mid new adds keeps = Appends-kept old mid new w.text.items adds keeps
 
-pub kept_words : (s : Source) (o : Options) (w : Words) (old mid new : Option (List ℕ)) → AddsWordsFrom s o w old mid → Keeps mid new → AddsWordsFrom s o w old new
-kept_words s o w old mid new adds keeps = kept_choice o.is_json (words_object s w ++ codes "\n") w.text.items old mid new adds keeps
+pub kept_words : (s : Source) (o : Options) (i : List ℕ) (w : Words) (old mid new : Option (List ℕ)) → AddsWordsFrom s o i w old mid → Keeps mid new
+    → AddsWordsFrom s o i w old new
+kept_words s o i w old mid new adds keeps = kept_choice o.is_json s i w old mid new adds keeps
 
 kept_text : (text : Option (List ℕ)) (old mid new : Option (List ℕ)) → AddsText text old mid → Keeps mid new → AddsText text old new
 kept_text None old mid new adds keeps = Keeps-trans old mid new adds keeps

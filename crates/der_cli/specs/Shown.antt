@@ -1,6 +1,6 @@
 -- The output of `der show`.
 use Rattle.std.specs.Prelude.{◌≡◌, ◌⊎◌, ◌&&◌, not, ℕ, Bool, true, false, MatchBool, MatchOption, Option, Some, None}
-use Rattle.std.specs.Prelude.{List, [], ◌++◌, codes, drop, take}
+use Rattle.std.specs.Prelude.{List, [], ◌++◌, codes}
 use Rattle.std.specs.Io.KnownBytes.{Appends, Keeps}
 use Rattle.std.specs.Option.{option_map, unwrap_or}
 use Rattle.der_base.specs.declared.rules.Rules.TheVariants.{Ber}
@@ -9,6 +9,7 @@ use Rattle.der_actions.specs.declared.origin.Origin.{Origin}
 use Rattle.der_show.specs.declared.unread.Unread.{Unread}
 use Rattle.der_show.specs.declared.words.Words.{Words}
 use Rattle.der_show.specs.Described.{IsDescribed}
+use Rattle.der_show.specs.Json.{IsJson}
 use Rattle.der_show.specs.Refused.{offset_of}
 use Rattle.der_show.specs.RefusedTexts.{IsRefusedText}
 use Rattle.der_show.specs.Unread.{IsWhyUnread}
@@ -17,7 +18,7 @@ use Rattle.der_elements.specs.declared.walk.Walk.{Walk}
 use Rattle.der_elements.specs.Visits.{Extras, Visited, Visits}
 use Rattle.der_elements.specs.Walked.{IsRefused}
 use Rattle.text_json.specs.declared.shown.object.Source.{Source}
-use Rattle.text_json.specs.Shown.Objects.{refused_text, shown_text}
+use Rattle.text_json.specs.Shown.Objects.{refused_text}
 
 -- whether a rule of RFC 5280 is broken, and the options make that an error
 abbrev pub is_broken : Options → Words → Bool
@@ -35,25 +36,24 @@ source_of o = record {
 abbrev pub AddsObject : List ℕ → Option (List ℕ) → Option (List ℕ) → Type 0
 AddsObject object old new = Appends old new (object ++ codes "\n")
 
--- a summary as a JSON object, with the lines before it
-abbrev pub words_object : Source → Words → List ℕ
-words_object s w = shown_text s (take w.words_at w.text.items) (drop w.words_at w.text.items) w.keeps_rules
+-- known octets grew by the summary of i as a JSON object
+abbrev pub AddsWordsObject : Source → List ℕ → Words → Option (List ℕ) → Option (List ℕ) → Type 0
+AddsWordsObject s i w old new = (object : List ℕ) × IsJson s i w object × AddsObject object old new
 
--- known octets grew by a summary of octets with this source, as text or as a JSON object
-abbrev pub AddsWordsFrom : Source → Options → Words → Option (List ℕ) → Option (List ℕ) → Type 0
-AddsWordsFrom s o w old new =
-    MatchBool o.is_json (AddsObject (words_object s w) old new) (Appends old new w.text.items)
+-- known octets grew by the summary of i, which has this source, as text or as a JSON object
+abbrev pub AddsWordsFrom : Source → Options → List ℕ → Words → Option (List ℕ) → Option (List ℕ) → Type 0
+AddsWordsFrom s o i w old new = MatchBool o.is_json (AddsWordsObject s i w old new) (Appends old new w.text.items)
 
--- known octets grew by a summary of octets with some source
-abbrev pub AddsWords : Options → Words → Option (List ℕ) → Option (List ℕ) → Type 0
-AddsWords o w old new = (s : Source) × AddsWordsFrom s o w old new
+-- known octets grew by the summary of i with some source
+abbrev pub AddsWords : Options → List ℕ → Words → Option (List ℕ) → Option (List ℕ) → Type 0
+AddsWords o i w old new = (s : Source) × AddsWordsFrom s o i w old new
 
 -- known octets grew by the summary of an input, and whether it breaks a rule that is an error
 pub record ShowsWordsOf (o : Options) (i : List ℕ) (broken : Bool) (old new : Option (List ℕ)) : Type 0 where
   pub words : Words
   pub describes : IsDescribed o.present i (Some words)
   pub breaks : is_broken o words ≡ broken
-  pub adds : AddsWords o words old new
+  pub adds : AddsWords o i words old new
 
 -- known octets grew by the summary of an input, which breaks no rule that is an error
 abbrev pub ShowsWords : Options → List ℕ → Option (List ℕ) → Option (List ℕ) → Type 0

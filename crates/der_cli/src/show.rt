@@ -33,25 +33,26 @@ pub(crate) fn show<W: Write, X: Write>(
 {
     let found = words_of(alloc, octets, options.present)?;
     match found {
-        Some(words) => write_words(alloc, options, origin, &words, out, err),
+        Some(words) => write_words(alloc, options, origin, octets, &words, out, err),
         None => refuse(alloc, options, origin, octets, out, err),
     }
 }
 
-/// Writes a summary. If `is_strict`, reports that a rule of RFC 5280 is broken. Returns whether there was nothing to
+/// Writes the summary of octets. If `is_strict`, reports that a rule of RFC 5280 is broken. Returns whether there was nothing to
 /// report.
 fn write_words<W: Write, X: Write>(
     alloc: Global,
     options: &Options<'_>,
     origin: Origin<'_>,
+    octets: &[u8],
     words: &Words,
     out: &mut W,
     err: &mut X,
 ) -> io::Result<bool>
-    ensures written { OnOk result (AddsWords options.now words.now (W.contents out.old) (W.contents out.new)) }
+    ensures written { OnOk result (AddsWords options.now octets.now words.now (W.contents out.old) (W.contents out.new)) }
     ensures broken { IfOk result (λ ok. is_broken options.now words.now ≡ not ok) }
 {
-    put_words(alloc, options, origin, words, out)?;
+    put_words(alloc, options, origin, octets, words, out)?;
     if !is_broken(options, words) {
         return Ok(true);
     }
@@ -60,19 +61,20 @@ fn write_words<W: Write, X: Write>(
     Ok(false)
 }
 
-/// Writes a summary, as a JSON object if the options say so.
+/// Writes the summary of octets, as a JSON object if the options say so.
 fn put_words<W: Write>(
     alloc: Global,
     options: &Options<'_>,
     origin: Origin<'_>,
+    octets: &[u8],
     words: &Words,
     out: &mut W,
 ) -> io::Result<()>
-    ensures { OnOk result (AddsWordsFrom (source_of origin.entry) options.now words.now
+    ensures { OnOk result (AddsWordsFrom (source_of origin.entry) options.now octets.now words.now
         (W.contents out.old) (W.contents out.new)) }
 {
     if options.is_json {
-        return write_shown(alloc, origin, words, out);
+        return write_shown(alloc, origin, octets, words, out);
     }
     out.write_all(&words.text)
 }

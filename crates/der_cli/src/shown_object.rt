@@ -1,32 +1,32 @@
 //! The output of `der show` as a JSON object.
 ghost use Rattle.std.specs.Option.{option_copied, option_map, unwrap_or};
-ghost use Rattle.std.specs.Prelude.{◌≡◌, ◌++◌, [], OnOk, codes, drop, take};
+ghost use Rattle.std.specs.Prelude.{◌≡◌, ◌++◌, [], OnOk, codes};
 ghost use Rattle.std.specs.Io.KnownBytes.{Appends};
 ghost use Rattle.der_show.specs.Messages.{text_in};
 ghost use Rattle.der_show.specs.Refused.{offset_of};
-ghost use Rattle.der_cli.specs.Shown.{AddsError, AddsObject, IsErrorOffset, source_of, words_object};
+ghost use Rattle.der_cli.specs.Shown.{AddsError, AddsWordsObject, IsErrorOffset, source_of};
 
 use crate::show::report_unknown;
 use der_actions::origin::Origin;
 use der_elements::{Rules, Walk};
-use der_show::{Unread, Words};
+use der_show::{Unread, Words, json_of_words};
 use std::alloc::Global;
 use std::io;
 use std::io::Write;
-use text_json::shown::{Source, refused_json, shown_json};
+use text_json::shown::{Source, refused_json};
 
-/// Writes a summary as a JSON object.
+/// Writes the summary of octets as a JSON object.
 pub(crate) fn write_shown<W: Write>(
     alloc: Global,
     origin: Origin<'_>,
+    octets: &[u8],
     words: &Words,
     out: &mut W,
 ) -> io::Result<()>
-    ensures { OnOk result (AddsObject (words_object (source_of origin.entry) words.now)
+    ensures { OnOk result (AddsWordsObject (source_of origin.entry) octets.now words.now
         (W.contents out.old) (W.contents out.new)) }
 {
-    let (lines, inside) = parts_of(words);
-    let object = shown_json(alloc, source_of(origin), lines, inside, words.keeps_rules)?;
+    let object = json_of_words(alloc, source_of(origin), octets, words)?;
     write_line(&object, out)
 }
 
@@ -46,18 +46,6 @@ pub(crate) fn write_refused<W: Write>(
     let offset = error_offset(octets, unread);
     let object = refused_json(alloc, source_of(origin), &error, offset, text_of(found))?;
     write_line(&object, out)
-}
-
-/// The lines before the summary, and the summary.
-fn parts_of(words: &Words) -> (&[u8], &[u8])
-    ensures lines { result.0.now ≡ take words.now.words_at words.now.text.items }
-    ensures inside { result.1.now ≡ drop words.now.words_at words.now.text.items }
-{
-    let text = words.text.as_slice();
-    if words.words_at <= text.len() {
-        return text.split_at(words.words_at);
-    }
-    (text, &[])
 }
 
 /// The source of octets, for a JSON object.

@@ -2,25 +2,24 @@
 use Rattle.std.proofs.Common.{ℕ, Option, Some, None, List, [], ◌∷◌, ◌++◌, Result, Ok, Err, IfOk, subst}
 use Rattle.std.specs.List.{All}
 use Rattle.std.proofs.lemmas.List.Elements.{All-head, All-tail}
-use Rattle.std.specs.Global.{Vec}
 use Rattle.der_known.specs.declared.known.KnownTypes.{KnownTypes}
 use Rattle.der_schema.specs.declared.known.KnownType.{KnownType}
 use Rattle.der_schema.specs.declared.schema.Schema.{Schema}
 use Rattle.der_schema.specs.declared.schema.Component.{Component}
 use Rattle.der_schema.specs.Known.{IsFirstSchema}
-use Rattle.der_show.specs.ByTypes.{AreWords, HasWords, ShowsByType}
-use Rattle.der_show.specs.Messages.{text_in}
+use Rattle.der_show.specs.declared.words.Words.{Words}
+use Rattle.der_show.specs.ByTypes.{HasWords, ShowsByType}
 
 -- octets that are so have the words of the type, if they have some
-shows : (IsSo : List ℕ → Type 0) (types : KnownTypes) (name i : List ℕ) (found : Option (List ℕ)) → IsSo i
+shows : (IsSo : List ℕ → Type 0) (types : KnownTypes) (name i : List ℕ) (found : Option Words) → IsSo i
     → HasWords types name i found → ShowsByType IsSo types name i found
-shows IsSo types name i (Some text) is words = (is, words)
-shows IsSo types name i None is none = λ text _. none text
+shows IsSo types name i (Some w) is words = (is, words)
+shows IsSo types name i None is none = λ w _. none w
 
 pub shows_on : {E : Type 0} (IsSo : List ℕ → Type 0) (types : KnownTypes) (name i : List ℕ)
-    (r : Result (Option (Vec ℕ)) E) → IsSo i → IfOk r (λ found. HasWords types name i (text_in found))
-    → IfOk r (λ found. ShowsByType IsSo types name i (text_in found))
-shows_on IsSo types name i (Ok found) is words = shows IsSo types name i (text_in found) is words
+    (r : Result (Option Words) E) → IsSo i → IfOk r (HasWords types name i)
+    → IfOk r (ShowsByType IsSo types name i)
+shows_on IsSo types name i (Ok found) is words = shows IsSo types name i found is words
 shows_on IsSo types name i (Err e) is words = tt
 
 none_of : (P : KnownType → Type 0) (before after : List KnownType) (k : KnownType)

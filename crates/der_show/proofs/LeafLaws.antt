@@ -193,4 +193,5 @@ words_by_type {now} {sc} {i} front written w name none keeps found from =
           ∙ ap (λ x. (sc.name.now ++ codes "\n" ++ s.lines) ++ x) words;
       start = from.start ∙ ap length lines;
       rules = from.keeps ∙ all.adds.keeps ∙ ap (λ x. x && s.keeps_rules) keeps;
+      by_type = from.by_type;
     }

@@ -1,4 +1,5 @@
 -- The words of octets by a known type.
+use Rattle.std.specs.Option.{option_map}
 use Rattle.std.specs.Prelude.{◌≡◌, ◌⊎◌, ℕ, Bool, true, false, IsTrue, Option, Some, None, List, [], ◌∷◌, codes}
 use Rattle.der_base.specs.declared.rules.Rules.TheVariants.{Ber}
 use Rattle.der_elements.specs.Visits.{Visited, Visits}
@@ -14,22 +15,28 @@ use Rattle.der_show.specs.declared.words.Words.{Words as Summary}
 use Rattle.type_words.specs.Items.{items_of}
 use Rattle.type_words.specs.Lines.{AreLines}
 
--- the lines of octets, which are elements of BER, by the type with this name
-pub record AreWords (types : KnownTypes) (name i text : List ℕ) : Type 0 where
-  pub schema : Schema
-  pub named : IsFirstSchema (λ k. k.name.now ≡ name) types.known.now (all_types types.types) (Some schema)
+-- the words of a type for octets, which are elements of BER
+pub record AreTypeWords (sc : Schema) (i : List ℕ) (w : Summary) : Type 0 where
   pub elements : List Visited
   pub visits : Visits all_extras Ber 101 0 0 i elements
-  pub lines : AreLines (items_of (root_of schema) i elements) text
+  pub lines : AreLines (items_of (root_of sc) i elements) w.text.items
+  pub start : w.words_at ≡ 0
+  pub rules : w.keeps_rules ≡ true
+  pub by_type : option_map (λ n. n.now) w.by_type ≡ Some sc.name.now
 
-abbrev pub HasWords : KnownTypes → List ℕ → List ℕ → Option (List ℕ) → Type 0
-HasWords types name i (Some text) = AreWords types name i text
-HasWords types name i None = (text : List ℕ) → ¬ AreWords types name i text
+-- the words of the type with this name
+abbrev pub AreWords : KnownTypes → List ℕ → List ℕ → Summary → Type 0
+AreWords types name i w = (sc : Schema)
+    × IsFirstSchema (λ k. k.name.now ≡ name) types.known.now (all_types types.types) (Some sc) × AreTypeWords sc i w
+
+abbrev pub HasWords : KnownTypes → List ℕ → List ℕ → Option Summary → Type 0
+HasWords types name i (Some w) = AreWords types name i w
+HasWords types name i None = (w : Summary) → ¬ AreWords types name i w
 
 -- the words of octets that are so, if they have some
-abbrev pub ShowsByType : (List ℕ → Type 0) → KnownTypes → List ℕ → List ℕ → Option (List ℕ) → Type 0
-ShowsByType IsSo types name i (Some text) = IsSo i × AreWords types name i text
-ShowsByType IsSo types name i None = (text : List ℕ) → IsSo i → ¬ AreWords types name i text
+abbrev pub ShowsByType : (List ℕ → Type 0) → KnownTypes → List ℕ → List ℕ → Option Summary → Type 0
+ShowsByType IsSo types name i (Some w) = IsSo i × AreWords types name i w
+ShowsByType IsSo types name i None = (w : Summary) → IsSo i → ¬ AreWords types name i w
 
 -- Types without a reader.
 
@@ -53,11 +60,3 @@ has_title [] = false
 -- the words of the type are shown
 abbrev pub IsInWords : Schema → Type 0
 IsInWords sc = IsTrue (has_title sc.components.now) × (¬ IsReadFirst sc.name.now)
-
--- the words of a type for octets that have it
-pub record AreTypeWords (sc : Schema) (i : List ℕ) (w : Summary) : Type 0 where
-  pub elements : List Visited
-  pub visits : Visits all_extras Ber 101 0 0 i elements
-  pub lines : AreLines (items_of (root_of sc) i elements) w.text.items
-  pub start : w.words_at ≡ 0
-  pub rules : w.keeps_rules ≡ true

@@ -78,3 +78,4 @@ pub record AreWordsFrom (written : Written) (w : Words) : Type 0 where
   pub text : w.text.items ≡ written.lines.items ++ written.words.items
   pub start : w.words_at ≡ length written.lines.items
   pub keeps : w.keeps_rules ≡ written.keeps_rules
+  pub by_type : w.by_type ≡ None

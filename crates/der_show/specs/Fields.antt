@@ -67,6 +67,7 @@ pub record AreWordsByFields (now : Option ℕ) (sc : Schema) (i : List ℕ) (w :
   pub whole : w.text.items ≡ (sc.name.now ++ codes "\n" ++ said.lines) ++ said.words
   pub start : w.words_at ≡ length (sc.name.now ++ codes "\n" ++ said.lines)
   pub rules : w.keeps_rules ≡ said.keeps_rules
+  pub by_type : w.by_type ≡ None
 
 -- the first of some types that octets have by BER; None if they have none
 abbrev pub IsTypeOf : KnownTypes → List ℕ → Option Schema → Type 0

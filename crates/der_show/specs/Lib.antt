@@ -4,6 +4,7 @@ pub mod Described
 pub mod FieldLines
 pub mod Fields
 pub mod InWords
+pub mod Json
 pub mod Known
 pub mod Leaves
 pub mod Messages

@@ -18,6 +18,7 @@ use Rattle.certificate_text.specs.CurveKeys.{IsCurveKey as IsCurveFields, ec_key
 use Rattle.certificate_text.specs.PrivateKeys.{IsPrivateKey as IsKeyShown, private_key_text}
 use Rattle.certificate_text.specs.PublicKeys.{IsPublicKey as IsPublicShown, public_key_text}
 use Rattle.certificate_text.specs.RsaKeys.{rsa_key_text}
+use Rattle.der_show.specs.declared.words.Words.{Words}
 use Rattle.der_show.specs.ByTypes.{ShowsByType}
 use Rattle.x509_keys.specs.Fields.{KeyFault}
 use Rattle.x509_keys.specs.Keys.{key_of, rsa_of, whole_key, whole_rsa_key}
@@ -66,39 +67,37 @@ IsPublicKey = Shows (IsKey whole_public_key) key_info_of
 
 -- Messages: of Kerberos by DER, the others by BER.
 
-abbrev pub IsKerberos : KnownTypes → List ℕ → Option (List ℕ) → Type 0
+abbrev pub IsKerberos : KnownTypes → List ℕ → Option Words → Type 0
 IsKerberos types = ShowsByType (λ i. (x : RequestValue) × Is Der AsReq i x) types (codes "AS-REQ")
 
-abbrev pub IsSnmp : KnownTypes → List ℕ → Option (List ℕ) → Type 0
+abbrev pub IsSnmp : KnownTypes → List ℕ → Option Words → Type 0
 IsSnmp types = ShowsByType (λ i. (m : SnmpValue) × Is Ber SnmpMessage i m) types (codes "Message")
 
-abbrev pub IsLdap : KnownTypes → List ℕ → Option (List ℕ) → Type 0
+abbrev pub IsLdap : KnownTypes → List ℕ → Option Words → Type 0
 IsLdap types = ShowsByType (λ i. (m : LdapValue) × Is Ber LdapMessage i m) types (codes "LDAPMessage")
 
 infixr 20 ◌⊳◌
--- the text of the first, or of the second if the first has none
-abbrev pub ◌⊳◌ : (List ℕ → Option (List ℕ) → Type 0) → (List ℕ → Option (List ℕ) → Type 0) → List ℕ
-    → Option (List ℕ) → Type 0
-◌⊳◌ P Q i found = ((text : List ℕ) × P i (Some text) × (found ≡ Some text)) ⊎ (P i None × Q i found)
+-- what the first finds, or the second if the first finds none
+abbrev pub ◌⊳◌ : {T : Type 0} → (List ℕ → Option T → Type 0) → (List ℕ → Option T → Type 0) → List ℕ → Option T
+    → Type 0
+◌⊳◌ {T} P Q i found = ((x : T) × P i (Some x) × (found ≡ Some x)) ⊎ (P i None × Q i found)
 
--- the summary of the first of these formats that the octets have, from each format on
-abbrev pub FromSnmp : KnownTypes → List ℕ → Option (List ℕ) → Type 0
+-- the text of the first of these keys that the octets are, from each on
+abbrev pub FromCurveKey : List ℕ → Option (List ℕ) → Type 0
+FromCurveKey = IsCurveKey ⊳ IsPublicKey
+
+abbrev pub FromRsaKey : List ℕ → Option (List ℕ) → Type 0
+FromRsaKey = IsRsaKey ⊳ FromCurveKey
+
+abbrev pub FromEncryptedKey : List ℕ → Option (List ℕ) → Type 0
+FromEncryptedKey = IsEncryptedKey ⊳ FromRsaKey
+
+abbrev pub IsKeyText : List ℕ → Option (List ℕ) → Type 0
+IsKeyText = IsPrivateKey ⊳ FromEncryptedKey
+
+-- the summary of the first of these messages that the octets are
+abbrev pub FromSnmp : KnownTypes → List ℕ → Option Words → Type 0
 FromSnmp types = IsSnmp types ⊳ IsLdap types
 
-abbrev pub FromKerberos : KnownTypes → List ℕ → Option (List ℕ) → Type 0
-FromKerberos types = IsKerberos types ⊳ FromSnmp types
-
-abbrev pub FromPublicKey : KnownTypes → List ℕ → Option (List ℕ) → Type 0
-FromPublicKey types = IsPublicKey ⊳ FromKerberos types
-
-abbrev pub FromCurveKey : KnownTypes → List ℕ → Option (List ℕ) → Type 0
-FromCurveKey types = IsCurveKey ⊳ FromPublicKey types
-
-abbrev pub FromRsaKey : KnownTypes → List ℕ → Option (List ℕ) → Type 0
-FromRsaKey types = IsRsaKey ⊳ FromCurveKey types
-
-abbrev pub FromEncryptedKey : KnownTypes → List ℕ → Option (List ℕ) → Type 0
-FromEncryptedKey types = IsEncryptedKey ⊳ FromRsaKey types
-
-abbrev pub IsMessage : KnownTypes → List ℕ → Option (List ℕ) → Type 0
-IsMessage types = IsPrivateKey ⊳ FromEncryptedKey types
+abbrev pub IsMessage : KnownTypes → List ℕ → Option Words → Type 0
+IsMessage types = IsKerberos types ⊳ FromSnmp types

@@ -7,7 +7,7 @@ ghost use Rattle.der_show.specs.ByTypes.{AreTypeWords, IsInWords, IsReadFirst, h
 ghost use Rattle.der_show.specs.Fields.{AreWordsByFields, AreWordsOfType, IsByFields, IsReadAlone};
 
 use crate::field_lines::{Written, with_lines};
-use crate::words::{Words, words_alone};
+use crate::words::{Words, words_by_type};
 use der_base::rules::Rules;
 use der_known::KnownTypes;
 use der_schema::Schema;
@@ -108,7 +108,7 @@ fn type_words(alloc: Global, octets: &[u8], schema: Schema<'_>) -> Result<Words,
         → IfOk result (AreTypeWords schema.entry octets.now) }
 {
     let (text, _end) = words_text(alloc, octets, Rules::Ber, schema)?;
-    Ok(words_alone(text, true))
+    Ok(words_by_type(text, schema.name))
 }
 
 /// The lines of the fields of octets that have a type, and the summaries.
@@ -144,5 +144,6 @@ fn words_from(written: Written) -> Result<Words, AllocError>
         text,
         words_at,
         keeps_rules: written.keeps_rules,
+        by_type: None,
     })
 }

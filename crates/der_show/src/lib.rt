@@ -19,6 +19,7 @@ mod by_type;
 mod extension;
 mod field_lines;
 mod fields;
+mod json;
 mod kerberos_request;
 mod key;
 mod known;
@@ -40,8 +41,9 @@ mod words;
 
 pub use certificate_text::Why;
 pub use fields::words_by_fields;
+pub use json::json_of_words;
 pub use known::{Known, keeps_rules, what_is};
-pub use message::text_of_message;
+pub use message::{text_of_key, words_of_message};
 pub use place::Place;
 pub use refused::Refused;
 pub use refused_text::text_of_refused;

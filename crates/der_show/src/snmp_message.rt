@@ -1,21 +1,21 @@
 //! SNMP messages (RFC 1157, RFC 1901), by BER.
 ghost use Rattle.std.specs.Prelude.{IfOk};
-ghost use Rattle.der_show.specs.Messages.{IsSnmp, text_in};
+ghost use Rattle.der_show.specs.Messages.{IsSnmp};
 
-use crate::by_type::text_by_type;
-use crate::message::{Found, none_after};
+use crate::by_type::words_by_name;
+use crate::message::{FoundWords, none_after};
 use der_known::KnownTypes;
 use messages::snmp::read_message;
 use std::alloc::Global;
 
 /// The summary of an SNMP message.
-pub(crate) fn snmp_text(alloc: Global, octets: &[u8], types: &KnownTypes) -> Found
-    ensures { IfOk result (λ found. IsSnmp types.now octets.now (text_in found)) }
+pub(crate) fn snmp_words(alloc: Global, octets: &[u8], types: &KnownTypes) -> FoundWords
+    ensures { IfOk result (λ found. IsSnmp types.now octets.now found) }
 {
     match read_message(alloc, octets) {
         Ok((rest, _message)) => {
             if rest.is_empty() {
-                text_by_type(alloc, octets, types, "Message")
+                words_by_name(alloc, octets, types, "Message")
             } else {
                 Ok(None)
             }

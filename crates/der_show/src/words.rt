@@ -1,10 +1,11 @@
 //! Summaries of octets in any known format.
-ghost use Rattle.std.specs.Prelude.{◌≡◌, IfOk};
-ghost use Rattle.der_show.specs.Described.{AreOtherWords, AreWordsOf, IsDescribed};
+ghost use Rattle.std.specs.Option.{option_map};
+ghost use Rattle.std.specs.Prelude.{◌≡◌, IfOk, None, Some, true};
+ghost use Rattle.der_show.specs.Described.{AreOtherWords, AreTypedWords, AreWordsOf, IsDescribed};
 
 use crate::fields::words_by_fields;
 use crate::known::{Known, keeps_rules, what_is};
-use crate::message::text_of_message;
+use crate::message::{text_of_key, words_of_message};
 use crate::text::text_of_known;
 use der_known::KnownTypes;
 use std::alloc::{AllocError, Global};
@@ -20,11 +21,13 @@ pub struct Words {
     /// False for a certificate or CRL that breaks a rule of RFC 5280 beyond its ASN.1, and for a message that contains
     /// such a one. Else true.
     pub keeps_rules: bool,
+    /// The name of the known type by whose words the octets are summarized. None if it is otherwise.
+    pub by_type: Option<&'static str>,
 }
 
 /// The summary of the first of these formats that all the octets have: a certificate, a CRL, a certification request, a
-/// key or message (`text_of_message`), or another known type (`words_by_fields`). None if they have none of these
-/// formats. AllocError if there is no memory.
+/// key (`text_of_key`), a message (`words_of_message`), or another known type (`words_by_fields`). None if they have none
+/// of these formats. AllocError if there is no memory.
 ///
 /// `now` is the current time, in seconds since 1970-01-01 00:00:00 UTC. Without it, the summary doesn't tell for how
 /// long a certificate is valid.
@@ -63,8 +66,24 @@ fn other_words(
 ) -> Result<Option<Words>, AllocError>
     ensures { IfOk result (λ words. AreOtherWords now types.now octets.now words) }
 {
-    match text_of_message(alloc, octets, types) {
+    match text_of_key(alloc, octets) {
         Ok(Some(text)) => Ok(Some(words_alone(text, true))),
+        Ok(None) => typed_words(alloc, octets, types, now),
+        Err(e) => Err(e),
+    }
+}
+
+/// The summary of a message, or octets of a known type.
+fn typed_words(
+    alloc: Global,
+    octets: &[u8],
+    types: &KnownTypes,
+    now: Option<u64>,
+) -> Result<Option<Words>, AllocError>
+    ensures { IfOk result (λ words. AreTypedWords now types.now octets.now words) }
+{
+    match words_of_message(alloc, octets, types) {
+        Ok(Some(words)) => Ok(Some(words)),
         Ok(None) => words_by_fields(alloc, octets, types, now),
         Err(e) => Err(e),
     }
@@ -75,10 +94,27 @@ pub(crate) fn words_alone(text: Vec<u8>, keeps_rules: bool) -> Words
     ensures text { result.text.items ≡ text.items }
     ensures start { result.words_at ≡ 0 }
     ensures rules { result.keeps_rules ≡ keeps_rules }
+    ensures by_type { result.by_type ≡ None }
 {
     Words {
         text,
         words_at: 0,
         keeps_rules,
+        by_type: None,
+    }
+}
+
+/// The words of the type with this name.
+pub(crate) fn words_by_type(text: Vec<u8>, name: &'static str) -> Words
+    ensures text { result.text.items ≡ text.items }
+    ensures start { result.words_at ≡ 0 }
+    ensures rules { result.keeps_rules ≡ true }
+    ensures by_type { option_map (λ n. n.now) result.by_type ≡ Some name.now }
+{
+    Words {
+        text,
+        words_at: 0,
+        keeps_rules: true,
+        by_type: Some(name),
     }
 }

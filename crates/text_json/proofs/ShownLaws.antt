@@ -1,3 +1,4 @@
+pub mod ItemLaws
 pub mod LineLaws
 pub mod ObjectLaws
 pub mod WordLaws

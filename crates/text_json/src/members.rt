@@ -90,7 +90,11 @@ fn time_in(alloc: Global, element: &Element<'_>) -> Result<Option<String>, Alloc
 }
 
 /// A time of a universal type in the form of RFC 3339.
-fn timestamp(alloc: Global, number: u32, octets: &[u8]) -> Result<Option<String>, AllocError>
+pub(crate) fn timestamp(
+    alloc: Global,
+    number: u32,
+    octets: &[u8],
+) -> Result<Option<String>, AllocError>
     ensures { IfOk result (λ time. IsTimestamp number octets.now (option_map string_bytes time)) }
 {
     if number != Tag::UtcTime.0 && number != Tag::GeneralizedTime.0 {

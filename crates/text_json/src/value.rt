@@ -69,20 +69,20 @@ fn is_false(octets: &[u8]) -> bool
 }
 
 /// An OBJECT IDENTIFIER in dotted form.
-fn arcs(alloc: Global, octets: &[u8], relative: bool) -> Result<Value, AllocError>
+pub(crate) fn arcs(alloc: Global, octets: &[u8], relative: bool) -> Result<Value, AllocError>
     ensures { IfOk result (λ value. view value ≡ string (identifier_text relative octets.now)) }
 {
     string(format!(in alloc; "{}", Arcs { octets, relative })?)
 }
 
-fn string(text: String) -> Result<Value, AllocError>
+pub(crate) fn string(text: String) -> Result<Value, AllocError>
     ensures { IfOk result (λ value. view value ≡ string (string_bytes text)) }
 {
     Ok(Value::String(text))
 }
 
 /// A number from -(2^53-1) to 2^53-1; any other as text.
-fn integer(alloc: Global, octets: &[u8]) -> Result<Value, AllocError>
+pub(crate) fn integer(alloc: Global, octets: &[u8]) -> Result<Value, AllocError>
     ensures { IfOk result (λ value. view value ≡ json_number octets.now) }
 {
     if let Ok(number) = read_i64(octets) {
@@ -135,13 +135,13 @@ fn real(alloc: Global, octets: &[u8]) -> Result<Value, AllocError>
 }
 
 /// The characters of a string. Octets that aren't characters are escaped.
-fn text(alloc: Global, number: u32, octets: &[u8]) -> Result<Value, AllocError>
+pub(crate) fn text(alloc: Global, number: u32, octets: &[u8]) -> Result<Value, AllocError>
     ensures { IfOk result (λ value. view value ≡ string (unquoted_text number octets.now)) }
 {
     string(format!(in alloc; "{}", Unquoted { octets, number })?)
 }
 
-fn hex(alloc: Global, octets: &[u8]) -> Result<Value, AllocError>
+pub(crate) fn hex(alloc: Global, octets: &[u8]) -> Result<Value, AllocError>
     ensures { IfOk result (λ value. view value ≡ string (encode_lower octets.now)) }
 {
     let limit = Limit::Whole;

@@ -12,7 +12,7 @@ mod value;
 mod walk;
 
 pub use item::{Item, Label, Sink};
-pub use octets::{Count, Octets, Shown, digits, quoted};
-pub use text::TextLines;
-pub use value::Name;
+pub use octets::{Count, Octets, Shown, digits, is_shown, quoted};
+pub use text::{TextLines, count_in, value_text};
+pub use value::{Name, name_among};
 pub use walk::{words_text, write_words};

@@ -79,7 +79,7 @@ impl fmt::Display for Shown<'_> {
 }
 
 /// Returns whether octets are UTF-8 without control characters.
-fn is_shown(octets: &[u8]) -> bool
+pub fn is_shown(octets: &[u8]) -> bool
     ensures { result ≡ is_shown octets.now }
 {
     has_no_control(octets) && is_utf8(octets)

@@ -1,5 +1,5 @@
 //! Items as lines of text.
-ghost use Rattle.std.specs.Prelude.{◌≡◌, ◌^◌, ◌<◌, [], Some, length};
+ghost use Rattle.std.specs.Prelude.{◌≡◌, ◌^◌, ◌<◌, [], IfOk, Some, length};
 ghost use Rattle.std.specs.Fmt.{DisplaysOnOk, IsPlainFormatter};
 ghost use Rattle.der_print.specs.Writes.{WritesOne};
 ghost use Rattle.type_words.specs.Counts.{IsCount};
@@ -167,6 +167,17 @@ fn write_front<W: fmt::Write>(f: &mut fmt::Formatter<W>, kind: &str) -> fmt::Res
     }
 }
 
+/// The text of a value, as a line has it. AllocError if there is no memory.
+pub fn value_text(alloc: Global, notation: Notation, octets: &[u8]) -> Result<Vec<u8>, AllocError>
+    ensures { IfOk result (λ text. IsValue notation octets.now text.items) }
+{
+    let mut lines = TextLines::new(alloc);
+    match write_value(&mut lines.f, alloc, notation, octets) {
+        Ok(()) => Ok(lines.into_bytes()),
+        Err(_) => Err(AllocError),
+    }
+}
+
 /// Writes a value.
 fn write_value<W: fmt::Write>(
     f: &mut fmt::Formatter<W>,
@@ -211,7 +222,7 @@ fn write_time<W: fmt::Write>(f: &mut fmt::Formatter<W>, octets: &[u8]) -> fmt::R
 
 /// How many elements these octets begin with by BER. The content octets of an indefinite length have an end marker,
 /// which is no element.
-fn count_in(octets: &[u8]) -> usize
+pub fn count_in(octets: &[u8]) -> usize
     ensures { IsCount octets.now result }
 {
     if size_of(octets) == 0 {

@@ -135,7 +135,7 @@ fn write_name<W: fmt::Write>(
 }
 
 /// The name of the number with these content octets.
-fn name_among(names: &'static [NumberName], octets: &[u8]) -> Option<&'static str>
+pub fn name_among(names: &'static [NumberName], octets: &[u8]) -> Option<&'static str>
     ensures { option_copied result ≡ name_among names.now octets.now }
 {
     match read_u64(octets) {

@@ -1,6 +1,5 @@
 -- The words that are inside of a line, and those after it.
 use Rattle.std.proofs.Common.{◌≡◌, ℕ, suc, ◌+◌, ◌<◌, true, false, cond, List, [], ◌∷◌, ◌++◌, drop, take, map, refl, sym, ap, ◌∙◌, arith}
-use Rattle.std.specs.Borrow.{Bor}
 use Rattle.std.specs.Prelude.{nat_lt}
 use Rattle.std.specs.List.{prefix_len, take_while}
 use Rattle.std.proofs.lemmas.Bool.Decides.{nat_tests}
@@ -8,9 +7,10 @@ use Rattle.std.proofs.lemmas.List.{append_assoc, map-append}
 use Rattle.serde_json.specs.Data.{Data}
 use Rattle.serde_json.specs.declared.value.Value.{Value}
 use Rattle.serde_json.specs.View.{view}
+use Rattle.text_json.specs.declared.shown.line.Line.{Line as Made}
 use Rattle.text_json.specs.declared.shown.words.Word.{Word}
-use Rattle.text_json.specs.Shown.Lines.{Placed, is_deeper}
-use Rattle.text_json.specs.Shown.Words.{IsFirstBeside, placed_of}
+use Rattle.text_json.specs.Shown.Lines.{Line, Placed, is_deeper}
+use Rattle.text_json.specs.Shown.Words.{IsFirstBeside, line_view, placed_of}
 
 abbrev pub inside : ℕ → List Word → List Data
 inside n ws = map (λ w. w.word) (take_while (is_deeper n) (map placed_of ws))
@@ -52,8 +52,8 @@ moved taken new v old ws all n o h =
     ∙ ap (λ l. map view taken ++ l) (sym o) ∙ h
 
 -- one more line is done
-pub line_done : (old new : List (Bor (List ℕ))) (line : Bor (List ℕ)) (done all : List (List ℕ)) → old ≡ new ++ line ∷ [] → map (λ x. x.now) old ++ done ≡ all
-    → map (λ x. x.now) new ++ line.now ∷ done ≡ all
+pub line_done : (old new : List Made) (line : Made) (done all : List Line) → old ≡ new ++ line ∷ [] → map line_view old ++ done ≡ all
+    → map line_view new ++ line_view line ∷ done ≡ all
 line_done old new line done all n h =
-    sym (append_assoc (map (λ x. x.now) new) (line.now ∷ []) done) ∙ ap (λ l. l ++ done) (sym (map-append (λ x. x.now) new (line ∷ [])))
-    ∙ ap (λ l. map (λ x. x.now) l ++ done) (sym n) ∙ h
+    sym (append_assoc (map line_view new) (line_view line ∷ []) done) ∙ ap (λ l. l ++ done) (sym (map-append line_view new (line ∷ [])))
+    ∙ ap (λ l. map line_view l ++ done) (sym n) ∙ h

@@ -4,7 +4,7 @@ use Rattle.std.specs.Prelude.{length, map}
 use Rattle.std.specs.List.{after_first, before_first, prefix_len, take_while}
 use Rattle.std.specs.Str.{trim_start}
 use Rattle.std.specs.Str.Lines.{lines}
-use Rattle.serde_json.specs.Data.{Data, array, member, no_members, null, object, string}
+use Rattle.serde_json.specs.Data.{Data, array, member, no_members, null, number, object, string, unsigned}
 use Rattle.serde_json.specs.View.{items_of}
 
 -- how many octets of white space a line begins with
@@ -34,10 +34,39 @@ abbrev pub text_or_null : Option (List ℕ) → Data
 text_or_null (Some text) = string text
 text_or_null None = null
 
+abbrev pub number_or_null : Option ℕ → Data
+number_or_null (Some n) = number (unsigned n)
+number_or_null None = null
+
+-- a line: how deep it is, and what its word says
+pub record Line : Type 0 where
+  pub indent : ℕ
+  pub name : Data
+  -- what is in front of the value
+  pub kind : Data
+  pub value : Data
+  -- the offset of the element
+  pub offset : Option ℕ
+
+-- the line with this text
+abbrev pub line_on : List ℕ → Line
+line_on line = record {
+  indent = indent line;
+  name = string (name_on line);
+  kind = null;
+  value = text_or_null (value_on line);
+  offset = None;
+}
+
+-- the lines of a text
+abbrev pub lines_on : List ℕ → List Line
+lines_on text = map line_on (lines text)
+
 -- the word of a line, with the words inside it
-abbrev pub word : List ℕ → Option (List ℕ) → List Data → Data
-word name value inside = object (member (codes "name") (string name)
-    (member (codes "value") (text_or_null value) (member (codes "words") (array (items_of inside)) no_members)))
+abbrev pub word : Line → List Data → Data
+word l inside = object (member (codes "name") l.name (member (codes "offset") (number_or_null l.offset)
+    (member (codes "type") l.kind (member (codes "value") l.value
+    (member (codes "words") (array (items_of inside)) no_members)))))
 
 -- a word, and the indent of its line
 pub record Placed : Type 0 where
@@ -48,17 +77,20 @@ abbrev pub is_deeper : ℕ → Placed → Bool
 is_deeper n w = nat_lt n w.indent
 
 -- the words of a line and of those after it: the deeper ones right after it are inside it
-abbrev pub with_line : List ℕ → List Placed → List Placed
-with_line line after =
-    let deeper = is_deeper (indent line) in
+abbrev pub with_line : Line → List Placed → List Placed
+with_line l after =
+    let deeper = is_deeper l.indent in
     let inside = map (λ w. w.word) (take_while deeper after) in
-    record { indent = indent line; word = word (name_on line) (value_on line) inside }
-    ∷ drop (prefix_len deeper after) after
+    record { indent = l.indent; word = word l inside } ∷ drop (prefix_len deeper after) after
 
-abbrev pub words_on : List (List ℕ) → List Placed
+abbrev pub words_on : List Line → List Placed
 words_on [] = []
 words_on (line ∷ more) = with_line line (words_on more)
 
+-- the words of lines
+abbrev pub words_of : List Line → List Data
+words_of ls = map (λ w. w.word) (words_on ls)
+
 -- the words of a text
 abbrev pub words_in : List ℕ → List Data
-words_in text = map (λ w. w.word) (words_on (lines text))
+words_in text = words_of (lines_on text)

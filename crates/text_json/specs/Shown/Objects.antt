@@ -1,17 +1,13 @@
 -- The summary of an input as a JSON object.
-use Rattle.std.specs.Prelude.{ℕ, Bool, Option, Some, None, List, codes, map}
+use Rattle.std.specs.Prelude.{ℕ, Bool, Option, List, codes, map}
 use Rattle.std.specs.Option.{option_map}
 use Rattle.std.specs.Str.Lines.{lines}
 use Rattle.std.specs.Str.Lossy.{utf8_lossy}
-use Rattle.serde_json.specs.Data.{Data, array, boolean, member, no_members, null, number, object, string, unsigned}
+use Rattle.serde_json.specs.Data.{Data, array, boolean, member, no_members, object, string}
 use Rattle.serde_json.specs.View.{items_of}
 use Rattle.serde_json.specs.Written.{compact_text}
 use Rattle.text_json.specs.declared.shown.object.Source.{Source}
-use Rattle.text_json.specs.Shown.Lines.{text_or_null, words_in}
-
-abbrev pub number_or_null : Option ℕ → Data
-number_or_null (Some n) = number (unsigned n)
-number_or_null None = null
+use Rattle.text_json.specs.Shown.Lines.{number_or_null, text_or_null, words_in}
 
 abbrev pub label_of : Source → Data
 label_of s = text_or_null (option_map (λ x. x.now) s.label)

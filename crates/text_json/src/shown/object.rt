@@ -4,9 +4,14 @@ ghost use Rattle.std.specs.Str.Lines.{lines};
 ghost use Rattle.std.specs.Str.Lossy.{utf8_lossy};
 ghost use Rattle.serde_json.specs.Data.{string};
 ghost use Rattle.serde_json.specs.View.{view};
+ghost use Rattle.text_json.specs.Shown.Items.{IsTypedText};
 ghost use Rattle.text_json.specs.Shown.Objects.{refused_members, refused_text, shown_members, shown_text};
 
-use crate::shown::words::{text_or_null, words_in};
+use crate::shown::items::item_lines;
+use crate::shown::line::{text_lines, text_or_null};
+use crate::shown::words::words_of;
+use der_base::rules::Rules;
+use der_schema::Schema;
 use serde_json::{Value, json};
 use std::alloc::{AllocError, Global};
 
@@ -33,8 +38,26 @@ pub fn shown_json(
     ensures { IfOk result (λ text. string_bytes text ≡ shown_text source.entry lines.now words.now keeps_rules) }
 {
     let lines = lines_in(alloc, lines)?;
-    let words = words_in(alloc, words)?;
+    let said = text_lines(alloc, words)?;
+    let words = words_of(alloc, said)?;
     let value = shown_value(alloc, source, lines, words, keeps_rules)?;
+    value.to_string(alloc)
+}
+
+/// The summary of octets by the words of a type, with typed values.
+pub fn typed_json(
+    alloc: Global,
+    source: Source<'_>,
+    octets: &[u8],
+    rules: Rules,
+    schema: Schema<'_>,
+) -> Result<String, AllocError>
+    ensures { IfOk result (λ text. IsTypedText source.entry rules schema.entry octets.now (string_bytes text)) }
+{
+    let items = item_lines(alloc, octets, rules, schema)?;
+    let words = words_of(alloc, items)?;
+    let lines = Vec::new(alloc);
+    let value = shown_value(alloc, source, lines, words, true)?;
     value.to_string(alloc)
 }
 
@@ -48,7 +71,8 @@ pub fn refused_json(
 ) -> Result<String, AllocError>
     ensures { IfOk result (λ text. string_bytes text ≡ refused_text source.entry error.now offset words.now) }
 {
-    let words = words_in(alloc, words)?;
+    let said = text_lines(alloc, words)?;
+    let words = words_of(alloc, said)?;
     let value = refused_value(alloc, source, error, offset, words)?;
     value.to_string(alloc)
 }

@@ -1,13 +1,11 @@
 //! The words of a summary, as a tree by indentation.
 ghost use Rattle.std.specs.Prelude.{◌≡◌, ◌<◌, ◌∷◌, IfOk, MatchOption, OnOk, drop, map};
 ghost use Rattle.std.specs.List.{prefix_len, take_while};
-ghost use Rattle.std.specs.Option.{option_map};
-ghost use Rattle.std.specs.Str.Lossy.{utf8_lossy};
 ghost use Rattle.serde_json.specs.View.{view};
-ghost use Rattle.text_json.specs.Shown.Lines.{is_deeper, text_or_null, with_line, word, words_in};
-ghost use Rattle.text_json.specs.Shown.Words.{IsNoneDeeper, placed_of};
+ghost use Rattle.text_json.specs.Shown.Lines.{is_deeper, with_line, word, words_of};
+ghost use Rattle.text_json.specs.Shown.Words.{IsNoneDeeper, line_view, placed_of};
 
-use crate::shown::line::{Line, line_of};
+use crate::shown::line::Line;
 use serde_json::{Value, json};
 use std::alloc::{AllocError, Global};
 use std::collections::VecDeque;
@@ -20,12 +18,11 @@ pub(crate) struct Word {
     value: Value,
 }
 
-/// The words of a text. The deeper lines right after a line are inside its word.
-pub(crate) fn words_in(alloc: Global, text: &[u8]) -> Result<Vec<Value>, AllocError>
-    ensures { IfOk result (λ words. map view words.items ≡ words_in (utf8_lossy text.now)) }
+/// The words of lines. The words of the deeper lines right after a line are inside its word.
+pub(crate) fn words_of(alloc: Global, lines: Vec<Line>) -> Result<Vec<Value>, AllocError>
+    ensures { IfOk result (λ words. map view words.items ≡ words_of (map line_view lines.items)) }
 {
-    let text = String::from_utf8_lossy(alloc, text)?;
-    let mut lines: Vec<&str> = text.lines().collect(alloc)?;
+    let mut lines = lines;
     let mut words = VecDeque::new(alloc);
     'lines: while let Some(line) = lines.pop() {
         put_line(alloc, &mut words, line)?;
@@ -34,36 +31,30 @@ pub(crate) fn words_in(alloc: Global, text: &[u8]) -> Result<Vec<Value>, AllocEr
 }
 
 /// Puts the word of a line before the words of later lines.
-fn put_line(alloc: Global, words: &mut VecDeque<Word>, line: &str) -> Result<(), AllocError>
-    ensures { OnOk result (map placed_of words.new.items ≡ with_line line.now (map placed_of words.old.items)) }
+fn put_line(alloc: Global, words: &mut VecDeque<Word>, line: Line) -> Result<(), AllocError>
+    ensures { OnOk result
+        (map placed_of words.new.items ≡ with_line (line_view line) (map placed_of words.old.items)) }
 {
-    let line = line_of(line);
-    let inside = take_deeper(alloc, words, line.indent)?;
-    let value = value_of(alloc, line, inside)?;
-    words.push_front(Word {
-        indent: line.indent,
-        value,
-    })?;
+    let indent = line.indent;
+    let inside = take_deeper(alloc, words, indent)?;
+    let value = word_of(alloc, line, inside)?;
+    words.push_front(Word { indent, value })?;
     Ok(())
 }
 
 /// The word of a line, with the words inside.
-fn value_of(alloc: Global, line: Line<'_>, inside: Vec<Value>) -> Result<Value, AllocError>
-    ensures { IfOk result (λ value. view value
-        ≡ word line.entry.name.now (option_map (λ v. v.now) line.entry.value) (map view inside.items)) }
+fn word_of(alloc: Global, line: Line, inside: Vec<Value>) -> Result<Value, AllocError>
+    ensures { IfOk result (λ value. view value ≡ word (line_view line) (map view inside.items)) }
 {
-    let value = text_or_null(alloc, line.value)?;
-    json!(in alloc; {"name": line.name, "value": value, "words": inside})
-}
-
-/// A text in JSON, or null if there is none.
-pub(crate) fn text_or_null(alloc: Global, text: Option<&str>) -> Result<Value, AllocError>
-    ensures { IfOk result (λ value. view value ≡ text_or_null (option_map (λ t. t.now) text.entry)) }
-{
-    match text {
-        Some(text) => Value::try_from_str(alloc, text),
-        None => Ok(Value::Null),
-    }
+    let Line {
+        indent: _,
+        name,
+        kind,
+        value,
+        offset,
+    } = line;
+    // Values that own memory come first: then less has to be dropped if an allocation fails.
+    json!(in alloc; {"words": inside, "name": name, "value": value, "type": kind, "offset": offset})
 }
 
 /// Takes the leading words that are deeper than this indentation.

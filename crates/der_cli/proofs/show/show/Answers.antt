@@ -31,7 +31,7 @@ returns-in-Some-clause-read g c =
     let new = g.W.Write.contents c.write_words.new.out in
     let w = c.in-Some.words in
     let described = rw c.in-Some.is at c.in_ok-found.ensures in
-    keeping c.write_words.result (AddsWords o w old new) (ShowsWords o i old new) (is_broken o w)
+    keeping c.write_words.result (AddsWords o i w old new) (ShowsWords o i old new) (is_broken o w)
     (λ adds keeps. record { words = w; describes = described; breaks = keeps; adds = adds }) c.write_words.ensures.written c.write_words.ensures.broken
 
 pub returns-in-Some-clause-refused : goal.returns-in-Some-clause-refused
@@ -42,7 +42,7 @@ returns-in-Some-clause-refused g c =
     let new = g.W.Write.contents c.write_words.new.out in
     let w = c.in-Some.words in
     let described = rw c.in-Some.is at c.in_ok-found.ensures in
-    breaking c.write_words.result (AddsWords o w old new) (RefusesShown o i old new) (is_broken o w)
+    breaking c.write_words.result (AddsWords o i w old new) (RefusesShown o i old new) (is_broken o w)
     (λ adds breaks. breaks_rule (record { words = w; describes = described; breaks = breaks; adds = adds })) c.write_words.ensures.written
     c.write_words.ensures.broken
 

@@ -8,4 +8,4 @@ returns-clause-written g c =
     let old = g.W.Write.contents c.args.out.now in
     let put = g.W.Write.contents c.put_words.new.out in
     let new = g.W.Write.contents c.flush.new.self in
-    (s, kept_words s c.args.options.now c.args.words.now old put new c.in_ok-put_words.ensures c.in_ok-flush.ensures.bytes)
+    (s, kept_words s c.args.options.now c.args.octets.now c.args.words.now old put new c.in_ok-put_words.ensures c.in_ok-flush.ensures.bytes)

@@ -6,10 +6,11 @@ use Rattle.der_show.proofs.fields.type_words.Goals as goal
 pub returns : goal.returns
 returns c = λ t.
     let found = c.in_ok-text.ensures in
-    let made = c.words_alone.ensures in record {
+    let made = c.words_by_type.ensures in record {
       elements = found.0;
       visits = all_visited found.0 _ t found.1;
       lines = subst (AreLines _) (sym made.text) found.2;
       start = made.start;
       rules = made.rules;
+      by_type = made.by_type;
     }
