@@ -69,9 +69,10 @@ fn arguments_of<'a>(alloc: Global, arguments: &[Argument]) -> Result<Vec<Arg<'a>
 /// An argument.
 fn argument_of<'a>(alloc: Global, argument: &Argument) -> Result<Arg<'a>, AllocError> {
     let arg = of_kind(alloc, argument);
-    match argument.conflict {
-        Some(other) => arg.conflicts_with(other),
-        None => Ok(arg),
+    match (argument.conflict, argument.needs) {
+        (Some(other), _) => arg.conflicts_with(other),
+        (None, Some(other)) => arg.requires_arg(other),
+        (None, None) => Ok(arg),
     }
 }
 
@@ -82,6 +83,7 @@ fn of_kind<'a>(alloc: Global, argument: &Argument) -> Arg<'a> {
         Kind::Flag => arg.long(argument.name).action(ArgAction::SetTrue),
         Kind::Number => arg.long(argument.name).value_parser(value_parser!(usize)),
         Kind::Word => arg.long(argument.name),
+        Kind::Words => arg.long(argument.name).action(ArgAction::Append),
         Kind::Form => arg
             .long(argument.name)
             .value_parser(FORMS.as_slice())

@@ -11,16 +11,15 @@ ghost use Rattle.der_cli.specs.Taken.{RunsFiles, TakesFile, TakesFiles, among, h
 use crate::arguments::{form_named, options_of, word_of};
 use crate::decode::octets_in;
 use crate::folders::list_files;
+use crate::modules::asked_naming;
 use crate::run::run;
 use crate::status::{TROUBLE, status_of_comparison};
 use crate::summary::{Outcome, Summary};
 use clap::ArgMatches;
 use der_actions::diff::{Sides, compare};
 use der_actions::name::Name;
-use der_actions::naming::naming_of;
 use der_actions::options::{Action, Options};
 use der_actions::origin::Origin;
-use der_actions::report::report_unknown_type;
 use der_actions::text::{write_octets, write_text};
 use der_input::Form;
 use der_known::KnownTypes;
@@ -146,7 +145,7 @@ fn outcome_of(is_accepted: bool) -> Outcome
 }
 
 /// The octets of a file, or of standard input.
-fn read_file<R: Files + AllocGlobal, I: Read>(
+pub(crate) fn read_file<R: Files + AllocGlobal, I: Read>(
     rt: &R,
     name: &str,
     input: &mut I,
@@ -163,7 +162,7 @@ fn read_file<R: Files + AllocGlobal, I: Read>(
 }
 
 /// The name of a file in messages.
-fn shown(name: &str) -> &str
+pub(crate) fn shown(name: &str) -> &str
     ensures { result.now ≡ shown_name name.now }
 {
     if name == DASH { STANDARD_INPUT } else { name }
@@ -191,9 +190,7 @@ pub(crate) fn run_diff<'n, 't, R: Files + AllocGlobal, I: Read, W: Write, X: Wri
     ensures { IfOk result (λ status. status ≤ 2) }
 {
     let types = KnownTypes::new();
-    let word = matches.get_str("as");
-    let Some(naming) = naming_of(Action::Tree, word, &types) else {
-        report_unknown_type(word, &types, err)?;
+    let Some(naming) = asked_naming(rt, Action::Tree, matches, &types, err)? else {
         return Ok(TROUBLE);
     };
     let options = Options {

@@ -6,6 +6,7 @@ mod command;
 mod decode;
 mod folders;
 mod inputs;
+mod modules;
 mod own_names;
 mod present;
 pub mod run;

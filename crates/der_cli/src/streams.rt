@@ -12,14 +12,13 @@ ghost use Rattle.der_cli.specs.Taken.{RunsFiles};
 use crate::arguments::{action_named, has_flag, options_of, word_of};
 use crate::command::command;
 use crate::inputs::{DASH, run_diff, run_files, run_octets, run_text};
+use crate::modules::{asked_naming, run_modules};
 use crate::own_names::{names_in, table_text};
 use crate::present::at_present;
 use crate::status::{CLOSED_PIPE, DONE, REFUSED, USAGE, status_of};
 use crate::terminal::style_of;
 use clap::ArgMatches;
-use der_actions::naming::naming_of;
 use der_actions::options::{Action, Options};
-use der_actions::report::report_unknown_type;
 use der_known::KnownTypes;
 use der_print::Style;
 use oid_names::OwnNames;
@@ -191,6 +190,7 @@ fn run_named<'n, 't, R: Files + Clock + AllocGlobal + Clone + Drop, I: Read, W: 
         "diff" => return run_diff(rt, matches, terminal, own, input, out, err),
         "text" => run_text(rt, matches, input, out, err)?,
         "octets" => run_octets(rt, matches, input, out, err)?,
+        "asn1" => run_modules(rt, matches, input, out, err)?,
         _ => {
             let action = action_named(name);
             return run_action(rt, action, matches, terminal, own, input, out, err);
@@ -215,9 +215,7 @@ fn run_action<'n, 't, R: Files + Clock + AllocGlobal + Clone + Drop, I: Read, W:
     ensures bounded { IfOk result (λ status. status ≤ 2) }
 {
     let types = KnownTypes::new();
-    let word = word_of(matches, "as");
-    let Some(naming) = naming_of(action, word, &types) else {
-        report_unknown_type(word, &types, err)?;
+    let Some(naming) = asked_naming(rt, action, matches, &types, err)? else {
         return Ok(USAGE);
     };
     let asked = at_present(rt, options_of(action, matches, terminal));

@@ -15,6 +15,8 @@ pub(crate) enum Kind {
     File,
     /// Any number of words without a name.
     Files,
+    /// A name and a word. It may be given again.
+    Words,
     /// A word without a name.
     Required,
 }
@@ -31,6 +33,8 @@ pub(crate) struct Argument {
     pub kind: Kind,
     /// The argument that excludes this one.
     pub conflict: Option<&'static str>,
+    /// The argument that this one needs.
+    pub needs: Option<&'static str>,
 }
 
 /// A subcommand.
@@ -45,7 +49,7 @@ pub(crate) struct Subcommand {
 }
 
 /// The subcommands, in the order of the help.
-pub(crate) fn subcommands() -> [&'static Subcommand; 9] {
+pub(crate) fn subcommands() -> [&'static Subcommand; 10] {
     [
         tree(),
         show(),
@@ -56,6 +60,7 @@ pub(crate) fn subcommands() -> [&'static Subcommand; 9] {
         diff(),
         text(),
         octets(),
+        asn1(),
     ]
 }
 
@@ -64,7 +69,7 @@ static TREE_COMMAND: Subcommand = Subcommand {
     about: "Print a line for each element, with its offset, lengths, type and value",
     notes: Some(PATH_NOTES),
     arguments: &[
-        DER, AS, NAMES, FULL, WIDTH, DEPTH, OFFSET, PATH, NO_INSIDE, RECURSIVE, FROM, FILES,
+        DER, AS, ASN1, NAMES, FULL, WIDTH, DEPTH, OFFSET, PATH, NO_INSIDE, RECURSIVE, FROM, FILES,
     ],
 };
 
@@ -87,7 +92,7 @@ static CHECK_COMMAND: Subcommand = Subcommand {
     name: "check",
     about: "Print a line for each file that isn't DER",
     notes: None,
-    arguments: &[BER, AS_TYPE, QUIET, RECURSIVE, FROM, FILES],
+    arguments: &[BER, AS_TYPE, ASN1, QUIET, RECURSIVE, FROM, FILES],
 };
 
 fn check() -> &'static Subcommand {
@@ -110,7 +115,7 @@ static JSON_COMMAND: Subcommand = Subcommand {
     about: "Print a line of JSON for each element",
     notes: Some(JSON_NOTES),
     arguments: &[
-        DER, AS, NAMES, OCTETS, DEPTH, OFFSET, PATH, NO_INSIDE, RECURSIVE, FROM, FILES,
+        DER, AS, ASN1, NAMES, OCTETS, DEPTH, OFFSET, PATH, NO_INSIDE, RECURSIVE, FROM, FILES,
     ],
 };
 
@@ -122,7 +127,7 @@ static GET_COMMAND: Subcommand = Subcommand {
     name: "get",
     about: "Write the octets of the first element at a path or offset",
     notes: Some(PATH_NOTES),
-    arguments: &[CONTENT, DER, AS, FROM, GIVEN_FILE, PLACE],
+    arguments: &[CONTENT, DER, AS, ASN1, FROM, GIVEN_FILE, PLACE],
 };
 
 fn get() -> &'static Subcommand {
@@ -133,7 +138,9 @@ static DIFF_COMMAND: Subcommand = Subcommand {
     name: "diff",
     about: "Print the elements that differ between two files",
     notes: Some(DIFF_NOTES),
-    arguments: &[DER, AS, NAMES, FULL, WIDTH, NO_INSIDE, FROM, FIRST, SECOND],
+    arguments: &[
+        DER, AS, ASN1, NAMES, FULL, WIDTH, NO_INSIDE, FROM, FIRST, SECOND,
+    ],
 };
 
 fn diff() -> &'static Subcommand {
@@ -160,6 +167,17 @@ static OCTETS_COMMAND: Subcommand = Subcommand {
 
 fn octets() -> &'static Subcommand {
     &OCTETS_COMMAND
+}
+
+static ASN1_COMMAND: Subcommand = Subcommand {
+    name: "asn1",
+    about: "Print the types that modules of ASN.1 define",
+    notes: None,
+    arguments: &[FILES],
+};
+
+fn asn1() -> &'static Subcommand {
+    &ASN1_COMMAND
 }
 
 const SHOW_NOTES: &str = "\
@@ -196,6 +214,7 @@ const FLAG: Argument = Argument {
     help: "",
     kind: Kind::Flag,
     conflict: None,
+    needs: None,
 };
 
 const DER: Argument = Argument {
@@ -221,6 +240,15 @@ const AS: Argument = Argument {
 const AS_TYPE: Argument = Argument {
     help: "Also check the type, such as Certificate",
     ..AS
+};
+
+const ASN1: Argument = Argument {
+    name: "asn1",
+    value: Some("FILE"),
+    help: "Modules of ASN.1 that define TYPE; may be given again",
+    kind: Kind::Words,
+    needs: Some("as"),
+    ..FLAG
 };
 
 const NAMES: Argument = Argument {
