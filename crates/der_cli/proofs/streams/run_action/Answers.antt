@@ -1,11 +1,11 @@
 use Rattle.std.proofs.Common.{refl}
 use Rattle.der_cli.specs.Runs.{no_type, on_files}
-use Rattle.der_cli.proofs.Asking.{is_asked, word_given}
+use Rattle.der_cli.proofs.Asking.{is_asked}
 use Rattle.der_cli.proofs.streams.run_action.Goals as goal
 
 pub returns-in_default-clause-runs : goal.returns-in_default-clause-runs
 returns-in_default-clause-runs g c =
-    let k = word_given c.word_of-word.result _ c.naming_of.result _ c.word_of-word.ensures c.naming_of.ensures.unsaid c.in_default.is in
+    let k = c.in_ok-naming.ensures c.in_default.is in
     no_type k.0 k.1 refl
 
 pub returns-clause-runs : goal.returns-clause-runs
