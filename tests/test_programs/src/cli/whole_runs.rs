@@ -332,7 +332,7 @@ fn a_failed_read_is_reported(rt: HostRuntime) {
         false,
     );
     let shown = screen.into_inner();
-    assert_eq!(rt; str::from_utf8(&shown), Ok("der: timed out\n"));
+    assert_eq!(rt; str::from_utf8(&shown), Ok("der: standard input: timed out\n"));
     assert_eq!(rt; status, ExitCode::FAILURE);
 }
 
