@@ -18,8 +18,10 @@ use c_values::fault::{DmFault, no_fault};
 use std::fmt::Write;
 use x509::crl::{CertificateList, ListRefusal};
 use x509::{Certificate, CertificateRefusal};
-use x509_rules::crl::{ListRule, MUST_LIST_RULES, SHOULD_LIST_RULES, list_breaks};
-use x509_rules::{MUST_RULES, Rule, SHOULD_RULES, breaks};
+use x509_rules::crl::{
+    ListRule, MUST_LIST_RULES, SHOULD_LIST_RULES, examine_list, examined_list_breaks,
+};
+use x509_rules::{MUST_RULES, Rule, SHOULD_RULES, breaks_examined, examine};
 
 /// The number of the first of `MUST_RULES`. The others follow, then `SHOULD_RULES`.
 const FIRST_RULE: u32 = 1;
@@ -81,10 +83,11 @@ fn put_broken(
     ensures { PutsBroken (λ r. Breaks r (certificate_of certificate.now)) 1 (rules.now ++ others.now) numbers.old
         (numbers.new, result) }
 {
+    let examined = examine(certificate);
     let mut count = 0;
     let mut index = 0;
     while let Some(rule) = item(rules, others, index) {
-        if breaks(rule, certificate) {
+        if breaks_examined(rule, &examined) {
             put_number(numbers, count, FIRST_RULE + index);
             count += 1;
         }
@@ -104,10 +107,11 @@ fn put_broken_of_list(
     ensures { PutsBroken (λ r. BreaksList r (certificate_list_of list.now)) 1001 (rules.now ++ others.now) numbers.old
         (numbers.new, result) }
 {
+    let examined = examine_list(list);
     let mut count = 0;
     let mut index = 0;
     while let Some(rule) = item(rules, others, index) {
-        if list_breaks(rule, list) {
+        if examined_list_breaks(rule, &examined) {
             put_number(numbers, count, FIRST_LIST_RULE + index);
             count += 1;
         }

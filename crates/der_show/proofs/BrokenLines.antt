@@ -1,5 +1,5 @@
--- Lines of the rules that are broken, in loops over these.
-use Rattle.std.proofs.Common.{◌≡◌, ◌++◌, ◌∷◌, [], List, ℕ, append-nil, append_assoc, inl, inr, refl, subst, sym}
+-- Lines of the rules that are broken, in loops over these, and whether there are none.
+use Rattle.std.proofs.Common.{◌≡◌, ◌⊎◌, ◌↔◌, ◌++◌, ◌∷◌, ◌∙◌, [], Bool, true, false, IsTrue, List, ℕ, append-nil, append_assoc, inl, inr, refl, subst, sym, true≢false}
 use Rattle.std.specs.List.{All}
 use Rattle.std.proofs.lemmas.List.Elements.{All-head, All-tail}
 use Rattle.x509_rule_facts.specs.Firsts.{IsFirstOf}
@@ -27,3 +27,26 @@ module _ {R : Type 0} (IsBroken : R → Type 0) (label : List ℕ) where
   rules_end all left sent none go =
       let nothing : AreBroken IsBroken label left [] = subst (λ i. AreBroken IsBroken label i []) (append-nil left) (passed left [] [] none refl) in
       subst (AreBroken IsBroken label all) (append-nil sent) (go [] nothing)
+
+-- what holds of each holds of one of them
+one_of : {R : Type 0} (Q : R → Type 0) (before rest : List R) (r : R) → All Q (before ++ r ∷ rest) → Q r
+one_of Q [] rest r h = All-head Q r rest h
+one_of Q (b ∷ bs) rest r h = one_of Q bs rest r (All-tail Q b (bs ++ r ∷ rest) h)
+
+module _ {R : Type 0} (IsBroken : R → Type 0) where
+  -- no rule was found so far, and all are left; or one was found
+  abbrev pub KeptSoFar : List R → List R → Bool → Type 0
+  KeptSoFar all left keeps = ((keeps ≡ true) × (left ≡ all)) ⊎ ((keeps ≡ false) × (¬ All (λ r. ¬ IsBroken r) all))
+
+  pub kept_start : {all : List R} → KeptSoFar all all true
+  kept_start = inl (refl, refl)
+
+  pub kept_no_more : {all left rest : List R} {r : R} {keeps : Bool} → IsFirstOf IsBroken left r rest → KeptSoFar all left keeps → KeptSoFar all rest false
+  kept_no_more {rest = rest} {r = r} x (inl k) =
+      let Q : R → Type 0 = λ z. ¬ IsBroken z in
+      inr (refl, λ none. one_of Q x.before rest r (subst (All Q) x.parts (subst (All Q) (sym k.1) none)) x.holds)
+  kept_no_more x (inr k) = inr (refl, k.1)
+
+  pub kept_end : {all left : List R} {keeps : Bool} → All (λ r. ¬ IsBroken r) left → KeptSoFar all left keeps → IsTrue keeps ↔ All (λ r. ¬ IsBroken r) all
+  kept_end none (inl k) = (λ t. subst (All (λ (r : R). ¬ IsBroken r)) k.1 none, λ a. k.0)
+  kept_end none (inr k) = (λ t. absurd (true≢false (sym t ∙ k.0)), λ a. absurd (k.1 a))

@@ -4,7 +4,6 @@ pub mod Found
 pub mod KnownLaws
 pub mod LeafLaws
 pub mod PlaceLaws
-pub mod RuleLaws
 pub mod TypeLaws
 pub mod UnreadLaws
 pub mod WhyLaws

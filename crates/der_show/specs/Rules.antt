@@ -1,5 +1,8 @@
 -- The rules of RFC 5280 that a certificate or CRL breaks, as lines.
-use Rattle.std.specs.Prelude.{◌≡◌, ℕ, ◌⊎◌, List, [], codes}
+use Rattle.std.specs.Prelude.{◌≡◌, ℕ, ◌⊎◌, IsOk, List, [], Result, codes}
+use Rattle.std.specs.Fmt.{HasWritten, IsPlainFormatter}
+use Rattle.std.specs.declared.fmt.Error.{Error}
+use Rattle.std.specs.declared.fmt.Formatter.{Formatter}
 use Rattle.x509.specs.Crl.Lists.{Signed as SignedList}
 use Rattle.x509.specs.Certificates.{Signed}
 use Rattle.x509_rules.specs.declared.certificate.TheConstants.{MUST_RULES, SHOULD_RULES}
@@ -8,6 +11,11 @@ use Rattle.x509_rules.specs.Crl.ListRules.{BreaksList}
 use Rattle.x509_rules.specs.Rules.{Breaks}
 use Rattle.extension_text.specs.Names.Pieces.{InOrder, ◌⨾◌}
 use Rattle.extension_text.specs.Names.Values.{line}
+
+-- as `WritesOne`, of a call that returns a value too
+abbrev pub WritesText : {W T : Type 0} → (W → List ℕ → W → Type 0) → Formatter W → Result T Error
+    → (List ℕ → Type 0) → Formatter W → Type 0
+WritesText took f r right g = IsPlainFormatter f → IsOk r → (text : List ℕ) × right text × HasWritten took f text g
 
 -- a line of a label and a text
 abbrev pub IsLine : List ℕ → List ℕ → Type 0

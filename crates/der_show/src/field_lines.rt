@@ -12,9 +12,9 @@ ghost use Rattle.der_elements.specs.Walked.{visited_of};
 ghost use Rattle.der_show.specs.FieldLines.{AddsAll, AddsShown, AddsWords};
 ghost use Rattle.der_show.specs.Leaves.{fields_style, leaf_line};
 
-use crate::known::{Known, keeps_rules};
+use crate::known::Known;
 use crate::manner::Manner;
-use crate::text::text_of_known;
+use crate::text::summary_of;
 use der_base::rules::Rules;
 use der_elements::{Element, Walk};
 use der_print::{Limit, Room, Style, write_field_line, write_outline};
@@ -161,9 +161,8 @@ fn add_words(
 ) -> Result<(), AllocError>
     ensures { OnOk result (AddsWords now octets.now known.now written.old written.new) }
 {
-    let text = text_of_known(alloc, octets, known, now)?;
-    written.words.extend_from_slice(&text)?;
-    let keeps_rules = keeps_rules(known);
-    written.keeps_rules = written.keeps_rules && keeps_rules;
+    let summary = summary_of(alloc, octets, known, now)?;
+    written.words.extend_from_slice(&summary.text)?;
+    written.keeps_rules = written.keeps_rules && summary.keeps_rules;
     Ok(())
 }

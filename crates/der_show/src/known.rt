@@ -1,15 +1,9 @@
 //! Certificates, CRLs and certification requests.
-ghost use Rattle.std.specs.Prelude.{◌↔◌, IsTrue};
-ghost use Rattle.x509.specs.Crl.Lists.{certificate_list_of};
-ghost use Rattle.x509.specs.Certificates.{certificate_of};
-ghost use Rattle.der_show.specs.Known.{IsKnown, IsKnownList, IsKnownRequest, KeepsRules, NoRuleBroken};
-ghost use Rattle.der_show.specs.Known.{NoListRuleBroken};
+ghost use Rattle.der_show.specs.Known.{IsKnown, IsKnownList, IsKnownRequest};
 
 use x509::crl::{CertificateList, read_certificate_list};
 use x509::{Certificate, read_certificate};
 use x509_keys::request::{CertificationRequest, read_request};
-use x509_rules::crl::{MUST_LIST_RULES, broken_list_rules};
-use x509_rules::{MUST_RULES, broken_rules};
 
 /// A certificate, CRL or certification request. Its texts borrow from the octets.
 #[derive(Drop)]
@@ -51,28 +45,4 @@ fn known_request(octets: &[u8]) -> Option<Known<'_>>
         Ok(request) => Some(Known::CertificationRequest(request)),
         Err(_) => None,
     }
-}
-
-/// Whether a certificate or CRL keeps every MUST rule of RFC 5280 beyond its ASN.1 (`MUST_RULES` of x509_rules and
-/// `MUST_LIST_RULES` of x509_rules::crl). No rules are checked for a certification request, so this is true.
-pub fn keeps_rules(known: &Known<'_>) -> bool
-    ensures { IsTrue result ↔ KeepsRules known.now }
-{
-    match known {
-        Known::Certificate(certificate) => breaks_no_rule(certificate),
-        Known::CertificateList(list) => breaks_no_list_rule(list),
-        Known::CertificationRequest(_) => true,
-    }
-}
-
-fn breaks_no_rule(certificate: &Certificate<'_>) -> bool
-    ensures { IsTrue result ↔ NoRuleBroken (certificate_of certificate.now) }
-{
-    broken_rules(certificate, MUST_RULES).next().is_none()
-}
-
-fn breaks_no_list_rule(list: &CertificateList<'_>) -> bool
-    ensures { IsTrue result ↔ NoListRuleBroken (certificate_list_of list.now) }
-{
-    broken_list_rules(list, MUST_LIST_RULES).next().is_none()
 }

@@ -42,7 +42,7 @@ mod words;
 pub use certificate_text::Why;
 pub use fields::words_by_fields;
 pub use json::json_of_words;
-pub use known::{Known, keeps_rules, what_is};
+pub use known::{Known, what_is};
 pub use message::{text_of_key, words_of_message};
 pub use place::Place;
 pub use refused::Refused;

@@ -1,5 +1,7 @@
 //! The summaries of certificates, CRLs and certification requests.
-ghost use Rattle.der_print.specs.Writes.{WritesOne};
+ghost use Rattle.std.specs.Prelude.{◌↔◌, IfOk, IsTrue};
+ghost use Rattle.der_show.specs.Known.{KeepsRules};
+ghost use Rattle.der_show.specs.Rules.{WritesText};
 ghost use Rattle.der_show.specs.Shown.{IsShown};
 
 use crate::known::Known;
@@ -20,19 +22,23 @@ pub struct Shown<'r, 'a> {
 
 impl fmt::Display for Shown<'_, '_> {
     fn fmt<W: fmt::Write>(&self, f: &mut fmt::Formatter<W>) -> fmt::Result {
-        write_known(f, self.octets, self.known, self.now)
+        write_known(f, self.octets, self.known, self.now)?;
+        Ok(())
     }
 }
 
 /// Writes the summary of a certificate, CRL or certification request, and then the rules of RFC 5280 that it breaks. It
-/// was read from `octets`. `now` is as in `words_of`.
+/// was read from `octets`. `now` is as in `words_of`. Returns whether a certificate or CRL keeps every MUST rule beyond
+/// its ASN.1 (`MUST_RULES` of x509_rules and `MUST_LIST_RULES` of x509_rules::crl). No rules are checked for a
+/// certification request, so this is true.
 pub fn write_known<W: fmt::Write>(
     f: &mut fmt::Formatter<W>,
     octets: &[u8],
     known: &Known<'_>,
     now: Option<u64>,
-) -> fmt::Result
-    ensures { WritesOne W.Write.write_str_gives f.old result (IsShown now octets.now known.now) f.new }
+) -> Result<bool, fmt::Error>
+    ensures text { WritesText W.Write.write_str_gives f.old result (IsShown now octets.now known.now) f.new }
+    ensures rules { IfOk result (λ keeps. IsTrue keeps ↔ KeepsRules known.now) }
 {
     match known {
         Known::Certificate(certificate) => {
@@ -43,6 +49,9 @@ pub fn write_known<W: fmt::Write>(
             write_list(f, octets, list, now)?;
             write_list_rules(f, list)
         }
-        Known::CertificationRequest(request) => write_request(f, request),
+        Known::CertificationRequest(request) => {
+            write_request(f, request)?;
+            Ok(true)
+        }
     }
 }

@@ -1,7 +1,8 @@
 //! Texts in memory.
-ghost use Rattle.std.specs.Prelude.{◌≡◌, [], IfOk, IfSome};
+ghost use Rattle.std.specs.Prelude.{◌≡◌, ◌↔◌, [], IfOk, IfSome, IsTrue};
 ghost use Rattle.certificate_text.specs.Partials.{IsPartialText};
 ghost use Rattle.x509.specs.Partial.Partials.{partial_of};
+ghost use Rattle.der_show.specs.Known.{KeepsRules};
 ghost use Rattle.der_show.specs.Shown.{IsShown};
 
 use crate::known::Known;
@@ -70,17 +71,31 @@ pub(crate) fn text_of_partial(
 }
 
 /// The summary of a certificate, CRL or certification request.
-pub(crate) fn text_of_known(
+#[derive(Drop)]
+pub(crate) struct Summary {
+    pub(crate) text: Vec<u8>,
+    /// Whether it keeps every MUST rule (`write_known`).
+    pub(crate) keeps_rules: bool,
+}
+
+/// Summarizes a certificate, CRL or certification request.
+pub(crate) fn summary_of(
     alloc: Global,
     octets: &[u8],
     known: &Known<'_>,
     now: Option<u64>,
-) -> Result<Vec<u8>, AllocError>
-    ensures { IfOk result (λ v. IsShown now octets.now known.now v.items) }
+) -> Result<Summary, AllocError>
+    ensures text { IfOk result (λ s. IsShown now octets.now known.now s.text.items) }
+    ensures rules { IfOk result (λ s. IsTrue s.keeps_rules ↔ KeepsRules known.now) }
 {
     let mut f = fmt::Formatter::new(Text::new(alloc));
     match write_known(&mut f, octets, known, now) {
-        Ok(()) => Ok(f.into_inner().octets),
+        Ok(keeps_rules) => {
+            Ok(Summary {
+                text: f.into_inner().octets,
+                keeps_rules,
+            })
+        }
         Err(_) => Err(AllocError),
     }
 }

@@ -4,9 +4,9 @@ ghost use Rattle.std.specs.Prelude.{◌≡◌, IfOk, None, Some, true};
 ghost use Rattle.der_show.specs.Described.{AreOtherWords, AreTypedWords, AreWordsOf, IsDescribed};
 
 use crate::fields::words_by_fields;
-use crate::known::{Known, keeps_rules, what_is};
+use crate::known::{Known, what_is};
 use crate::message::{text_of_key, words_of_message};
-use crate::text::text_of_known;
+use crate::text::summary_of;
 use der_known::KnownTypes;
 use std::alloc::{AllocError, Global};
 
@@ -52,9 +52,8 @@ fn words_of_known(
 ) -> Result<Option<Words>, AllocError>
     ensures { IfOk result (λ words. AreWordsOf now octets.now known.now words) }
 {
-    let text = text_of_known(alloc, octets, known, now)?;
-    let keeps_rules = keeps_rules(known);
-    Ok(Some(words_alone(text, keeps_rules)))
+    let summary = summary_of(alloc, octets, known, now)?;
+    Ok(Some(words_alone(summary.text, summary.keeps_rules)))
 }
 
 /// The summary of a key, a message, or octets of a known type.

@@ -546,7 +546,7 @@ pub fn breaks(rule: Rule, certificate: &Certificate<'_>) -> bool
 
 /// Returns whether an examined certificate breaks the rule.
 #[inline(always)]
-pub(crate) fn breaks_examined(rule: Rule, certificate: &Examined<'_, '_>) -> bool
+pub fn breaks_examined(rule: Rule, certificate: &Examined<'_, '_>) -> bool
     requires { IsExamined certificate.now }
     ensures { IsTrue result ↔ Breaks rule (signed_of certificate.now) }
 {

@@ -9,8 +9,10 @@ mod whole_list;
 
 pub use der_extensions::KnownExtension;
 pub use entries::EntryRule;
+pub use examined::{ExaminedList, examine_list};
 pub use revoked::{
-    BrokenListRules, ListRule, MUST_LIST_RULES, SHOULD_LIST_RULES, broken_list_rules, list_breaks,
+    BrokenListRules, FirstBrokenOfList, ListRule, MUST_LIST_RULES, SHOULD_LIST_RULES,
+    broken_list_rules, examined_list_breaks, first_broken_of_list, list_breaks,
 };
 pub use whole_list::WholeListRule;
 pub use x509_rule_facts::types::ValueType;

@@ -13,12 +13,12 @@ use x509_value_rules::sorted::{FEW_QUESTIONS, SortedExtensions};
 
 /// A certificate, with what was read of it.
 #[derive(Drop)]
-pub(crate) struct Examined<'r, 'a> {
-    pub signed: &'r Certificate<'a>,
+pub struct Examined<'r, 'a> {
+    pub(crate) signed: &'r Certificate<'a>,
     /// The extensions of the certificate.
-    pub extensions: SortedExtensions<'a>,
+    pub(crate) extensions: SortedExtensions<'a>,
     /// The kinds of attributes whose rule it breaks; None if that wasn't read.
-    pub bad_kinds: Option<[bool; ATTRIBUTE_KINDS]>,
+    pub(crate) bad_kinds: Option<[bool; ATTRIBUTE_KINDS]>,
 }
 
 /// A certificate for one question: nothing is read ahead.
@@ -34,22 +34,35 @@ pub(crate) fn unexamined<'r, 'a>(signed: &'r Certificate<'a>) -> Examined<'r, 'a
     }
 }
 
-/// A certificate for this number of questions.
-pub(crate) fn examine<'r, 'a>(signed: &'r Certificate<'a>, questions: usize) -> Examined<'r, 'a>
-    ensures certificate { signed_of result ≡ certificate_of signed.now }
+/// Reads the certificate's names and extensions once, for any number of rules.
+pub fn examine<'r, 'a>(certificate: &'r Certificate<'a>) -> Examined<'r, 'a>
+    ensures certificate { signed_of result ≡ certificate_of certificate.now }
     ensures examined { IsExamined result }
 {
-    let reads_ahead = questions > FEW_QUESTIONS;
-    let extensions = SortedExtensions::sort(signed.tbs_certificate.extensions, reads_ahead);
-    let bad_kinds = if reads_ahead {
-        Some(bad_kinds(signed))
-    } else {
-        None
-    };
+    let extensions = SortedExtensions::sort(certificate.tbs_certificate.extensions, true);
     Examined {
-        signed,
+        signed: certificate,
         extensions,
-        bad_kinds,
+        bad_kinds: Some(bad_kinds(certificate)),
+    }
+}
+
+/// A certificate for this number of questions. Few questions read what they need themselves.
+pub(crate) fn examine_for<'r, 'a>(
+    certificate: &'r Certificate<'a>,
+    questions: usize,
+) -> Examined<'r, 'a>
+    ensures certificate { signed_of result ≡ certificate_of certificate.now }
+    ensures examined { IsExamined result }
+{
+    if questions > FEW_QUESTIONS {
+        return examine(certificate);
+    }
+    let extensions = SortedExtensions::sort(certificate.tbs_certificate.extensions, false);
+    Examined {
+        signed: certificate,
+        extensions,
+        bad_kinds: None,
     }
 }
 

@@ -10,9 +10,10 @@ mod examined;
 mod issuers;
 mod whole;
 
-pub use broken::{BrokenRules, broken_rules};
-pub use certificate::{MUST_RULES, Rule, SHOULD_RULES, breaks};
+pub use broken::{BrokenRules, FirstBroken, broken_rules, first_broken};
+pub use certificate::{MUST_RULES, Rule, SHOULD_RULES, breaks, breaks_examined};
 pub use der_extensions::KnownExtension;
+pub use examined::{Examined, examine};
 pub use whole::WholeRule;
 pub use x509_rule_facts::algorithms::AlgorithmRule;
 pub use x509_rule_facts::attributes::{AttributeKind, StringKind};

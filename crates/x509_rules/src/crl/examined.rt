@@ -14,12 +14,12 @@ use x509_value_rules::sorted::{FEW_QUESTIONS, SortedExtensions};
 
 /// A CRL, with what was read of it.
 #[derive(Drop)]
-pub(crate) struct ExaminedList<'r, 'a> {
-    pub signed: &'r CertificateList<'a>,
+pub struct ExaminedList<'r, 'a> {
+    pub(crate) signed: &'r CertificateList<'a>,
     /// The extensions of the CRL.
-    pub extensions: SortedExtensions<'a>,
+    pub(crate) extensions: SortedExtensions<'a>,
     /// The rules that its entries break; None if they weren't read.
-    pub marks: Option<[bool; ENTRY_MARKS]>,
+    pub(crate) marks: Option<[bool; ENTRY_MARKS]>,
 }
 
 /// A CRL for one question: nothing is read ahead.
@@ -35,25 +35,35 @@ pub(crate) fn unexamined_list<'r, 'a>(signed: &'r CertificateList<'a>) -> Examin
     }
 }
 
-/// A CRL for this number of questions.
-pub(crate) fn examine_list<'r, 'a>(
-    signed: &'r CertificateList<'a>,
-    questions: usize,
-) -> ExaminedList<'r, 'a>
-    ensures list { signed_list_of result ≡ certificate_list_of signed.now }
+/// Reads the CRL's entries and extensions once, for any number of rules.
+pub fn examine_list<'r, 'a>(list: &'r CertificateList<'a>) -> ExaminedList<'r, 'a>
+    ensures list { signed_list_of result ≡ certificate_list_of list.now }
     ensures examined { IsExaminedList result }
 {
-    let reads_ahead = questions > FEW_QUESTIONS;
-    let extensions = SortedExtensions::sort(signed.tbs_cert_list.crl_extensions, reads_ahead);
-    let marks = if reads_ahead {
-        Some(marks_of(&signed.tbs_cert_list.revoked_certificates))
-    } else {
-        None
-    };
+    let extensions = SortedExtensions::sort(list.tbs_cert_list.crl_extensions, true);
     ExaminedList {
-        signed,
+        signed: list,
         extensions,
-        marks,
+        marks: Some(marks_of(&list.tbs_cert_list.revoked_certificates)),
+    }
+}
+
+/// A CRL for this number of questions. Few questions read what they need themselves.
+pub(crate) fn examine_list_for<'r, 'a>(
+    list: &'r CertificateList<'a>,
+    questions: usize,
+) -> ExaminedList<'r, 'a>
+    ensures list { signed_list_of result ≡ certificate_list_of list.now }
+    ensures examined { IsExaminedList result }
+{
+    if questions > FEW_QUESTIONS {
+        return examine_list(list);
+    }
+    let extensions = SortedExtensions::sort(list.tbs_cert_list.crl_extensions, false);
+    ExaminedList {
+        signed: list,
+        extensions,
+        marks: None,
     }
 }
 

@@ -8,7 +8,7 @@ ghost use Rattle.x509_rules.specs.Crl.ListRules.{list_rules_left};
 
 use crate::crl::entries::EntryRule;
 use crate::crl::examined::{
-    ExaminedList, breaks_of_entry, examine_list, list_has, unexamined_list,
+    ExaminedList, breaks_of_entry, examine_list_for, list_has, unexamined_list,
 };
 use crate::crl::whole_list::{WholeListRule, breaks_whole_list};
 use der_extensions::KnownExtension;
@@ -294,7 +294,7 @@ pub fn list_breaks(rule: ListRule, list: &CertificateList<'_>) -> bool
 }
 
 /// Returns whether an examined CRL breaks the rule.
-fn examined_list_breaks(rule: ListRule, list: &ExaminedList<'_, '_>) -> bool
+pub fn examined_list_breaks(rule: ListRule, list: &ExaminedList<'_, '_>) -> bool
     requires { IsExaminedList list.now }
     ensures { IsTrue result ↔ BreaksList rule (signed_list_of list.now) }
 {
@@ -321,12 +321,13 @@ const FEW_BROKEN: usize = 4;
 
 /// A broken rule, and the rules after it.
 #[derive(Clone, Copy)]
-pub(crate) struct FirstBrokenOfList<'r> {
+pub struct FirstBrokenOfList<'r> {
     pub rule: ListRule,
     pub rest: &'r [ListRule],
 }
 
 /// The rules of the list that the CRL breaks, in order. The list is `MUST_LIST_RULES`, `SHOULD_LIST_RULES` or your own.
+/// The CRL is examined anew after each. `examine_list` and `first_broken_of_list` examine it once.
 pub fn broken_list_rules<'r, 'a>(
     list: &'r CertificateList<'a>,
     rules: &'r [ListRule],
@@ -352,15 +353,15 @@ impl<'r, 'a> Iterator for BrokenListRules<'r, 'a> {
     ghost remaining = { λ s. at_most (length (list_rules_left s)) };
 
     fn next(&mut self) -> Option<ListRule> {
-        let first = first_broken_of_list(self.list, self.left, self.found < FEW_BROKEN)?;
+        let first = find_broken_of_list(self.list, self.left, self.found < FEW_BROKEN)?;
         self.left = first.rest;
         self.found = self.found.saturating_add(1);
         Some(first.rule)
     }
 }
 
-/// Returns the first rule that the CRL breaks. With `reads_ahead`, it is examined once for all of them.
-fn first_broken_of_list<'r>(
+/// Returns the first rule that the CRL breaks. With `reads_ahead`, its entries are read once for all rules.
+fn find_broken_of_list<'r>(
     list: &CertificateList<'_>,
     rules: &'r [ListRule],
     reads_ahead: bool,
@@ -368,10 +369,21 @@ fn first_broken_of_list<'r>(
     ensures { FindsBrokenOfList (certificate_list_of list.now) rules.now result }
 {
     let questions = if reads_ahead { rules.len() } else { 0 };
-    let examined = examine_list(list, questions);
+    let examined = examine_list_for(list, questions);
+    first_broken_of_list(&examined, rules)
+}
+
+/// Returns the first rule of the list that an examined CRL breaks, and the rules after it.
+pub fn first_broken_of_list<'r>(
+    list: &ExaminedList<'_, '_>,
+    rules: &'r [ListRule],
+) -> Option<FirstBrokenOfList<'r>>
+    requires { IsExaminedList list.now }
+    ensures { FindsBrokenOfList (signed_list_of list.now) rules.now result }
+{
     let mut left = rules;
     while let Some((rule, rest)) = left.split_first() {
-        if examined_list_breaks(*rule, &examined) {
+        if examined_list_breaks(*rule, list) {
             return Some(FirstBrokenOfList { rule: *rule, rest });
         }
         left = rest;

@@ -1,4 +1,4 @@
-use Rattle.std.proofs.Common.{◌++◌, refl, sym, arith, length-append}
+use Rattle.std.proofs.Common.{◌++◌, refl, subst, sym, arith, length-append}
 use Rattle.std.proofs.lemmas.Bool.{false≢true}
 use Rattle.std.proofs.lemmas.Option.{slice_get_within}
 use Rattle.x509_rules.specs.declared.certificate.Rule.{Rule}
@@ -6,7 +6,7 @@ use Rattle.x509.specs.Certificates.{certificate_of}
 use Rattle.x509_rules.specs.Rules.{Breaks}
 use Rattle.c_formats.proofs.BrokenNumbers.{all_asked, none_so_far, one_broken, one_kept}
 use Rattle.c_formats.proofs.rules.put_broken.Goals as goal
-use Rattle.c_formats.proofs.rules.put_broken.Goals.{then-breaks, else-breaks}
+use Rattle.c_formats.proofs.rules.put_broken.Goals.{then-breaks_examined, else-breaks_examined}
 
 pub loop-rule-init : goal.loop-rule-init
 loop-rule-init c = none_so_far (λ r. Breaks r (certificate_of c.args.certificate.now)) 1 (c.args.rules.now ++ c.args.others.now) c.args.numbers.now
@@ -35,9 +35,10 @@ loop-rule-preserved c =
     let i = c.loop-rule.index in
     let is = sym c.in-Some.ensures in
     let before = c.loop-rule in
-    elim c.if-breaks.branch [
-      | then-breaks w ↦ rw w.numbers-is (rw w.count-is (one_broken IsBroken 1 all old i rule before.numbers w.put_number.new.numbers before.count is before.invariant (w.if-breaks.ensures.0 refl) w.put_number.ensures))
-      | else-breaks w ↦ rw w.numbers-is (rw w.count-is (one_kept IsBroken 1 all old i rule before.numbers before.count is before.invariant (λ b. false≢true (w.if-breaks.ensures.1 b))))
+    let same = c.examine-examined.ensures.certificate in
+    elim c.if-breaks_examined.branch [
+      | then-breaks_examined w ↦ rw w.numbers-is (rw w.count-is (one_broken IsBroken 1 all old i rule before.numbers w.put_number.new.numbers before.count is before.invariant (subst (Breaks rule) same (w.if-breaks_examined.ensures.0 refl)) w.put_number.ensures))
+      | else-breaks_examined w ↦ rw w.numbers-is (rw w.count-is (one_kept IsBroken 1 all old i rule before.numbers before.count is before.invariant (λ b. false≢true (w.if-breaks_examined.ensures.1 (subst (Breaks rule) (sym same) b)))))
     ]
 
 pub returns : goal.returns

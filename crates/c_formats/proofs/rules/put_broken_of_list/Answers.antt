@@ -1,4 +1,4 @@
-use Rattle.std.proofs.Common.{◌++◌, refl, sym, arith, length-append}
+use Rattle.std.proofs.Common.{◌++◌, refl, subst, sym, arith, length-append}
 use Rattle.std.proofs.lemmas.Bool.{false≢true}
 use Rattle.std.proofs.lemmas.Option.{slice_get_within}
 use Rattle.x509_rules.specs.declared.crl.revoked.ListRule.{ListRule}
@@ -6,7 +6,7 @@ use Rattle.x509.specs.Crl.Lists.{certificate_list_of}
 use Rattle.x509_rules.specs.Crl.ListRules.{BreaksList}
 use Rattle.c_formats.proofs.BrokenNumbers.{all_asked, none_so_far, one_broken, one_kept}
 use Rattle.c_formats.proofs.rules.put_broken_of_list.Goals as goal
-use Rattle.c_formats.proofs.rules.put_broken_of_list.Goals.{then-list_breaks, else-list_breaks}
+use Rattle.c_formats.proofs.rules.put_broken_of_list.Goals.{then-examined_list_breaks, else-examined_list_breaks}
 
 pub loop-rule-init : goal.loop-rule-init
 loop-rule-init c = none_so_far (λ r. BreaksList r (certificate_list_of c.args.list.now)) 1001 (c.args.rules.now ++ c.args.others.now) c.args.numbers.now
@@ -35,9 +35,10 @@ loop-rule-preserved c =
     let i = c.loop-rule.index in
     let is = sym c.in-Some.ensures in
     let before = c.loop-rule in
-    elim c.if-list_breaks.branch [
-      | then-list_breaks w ↦ rw w.numbers-is (rw w.count-is (one_broken IsBroken 1001 all old i rule before.numbers w.put_number.new.numbers before.count is before.invariant (w.if-list_breaks.ensures.0 refl) w.put_number.ensures))
-      | else-list_breaks w ↦ rw w.numbers-is (rw w.count-is (one_kept IsBroken 1001 all old i rule before.numbers before.count is before.invariant (λ b. false≢true (w.if-list_breaks.ensures.1 b))))
+    let same = c.examine_list-examined.ensures.list in
+    elim c.if-examined_list_breaks.branch [
+      | then-examined_list_breaks w ↦ rw w.numbers-is (rw w.count-is (one_broken IsBroken 1001 all old i rule before.numbers w.put_number.new.numbers before.count is before.invariant (subst (BreaksList rule) same (w.if-examined_list_breaks.ensures.0 refl)) w.put_number.ensures))
+      | else-examined_list_breaks w ↦ rw w.numbers-is (rw w.count-is (one_kept IsBroken 1001 all old i rule before.numbers before.count is before.invariant (λ b. false≢true (w.if-examined_list_breaks.ensures.1 (subst (BreaksList rule) (sym same) b)))))
     ]
 
 pub returns : goal.returns

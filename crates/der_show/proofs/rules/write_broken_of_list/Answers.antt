@@ -1,32 +1,36 @@
-use Rattle.std.proofs.Common.{[], ◌++◌, ◌∙◌, ap, refl}
+use Rattle.std.proofs.Common.{[], ◌++◌, refl}
 use Rattle.std.proofs.Output.{has_written_append, writes_in_calls_nil}
-use Rattle.x509.specs.Crl.Lists.{certificate_list_of}
-use Rattle.x509_rules.specs.Crl.ListRules.{BreaksList, list_in, list_rules_left}
-use Rattle.der_show.proofs.BrokenLines.{rules_end, rules_on, rules_start}
+use Rattle.x509_rules.specs.Crl.Examined.{signed_list_of}
+use Rattle.x509_rules.specs.Crl.ListRules.{BreaksList}
+use Rattle.der_show.proofs.BrokenLines.{kept_end, kept_no_more, kept_start, rules_end, rules_on, rules_start}
 use Rattle.der_show.proofs.rules.write_broken_of_list.Goals as goal
 
-pub loop-rule-init : goal.loop-rule-init
-loop-rule-init g c = record {
-  same = ap (λ x. list_in x) c.into_iter-rule-iterator.ensures.into_iter_gives ∙ c.broken_list_rules-rule-items.ensures.list;
-  done = λ plain. ([], rules_start (λ r. BreaksList r (certificate_list_of c.args.list.now)) c.args.label.now (ap (λ x. list_rules_left x) c.into_iter-rule-iterator.ensures.into_iter_gives ∙ c.broken_list_rules-rule-items.ensures.rules), record { wrote = writes_in_calls_nil _ _; plain = plain });
+pub loop-broken-init : goal.loop-broken-init
+loop-broken-init g c = record {
+  kept = kept_start (λ r. BreaksList r (signed_list_of c.args.list.now));
+  done = λ plain. ([], rules_start (λ r. BreaksList r (signed_list_of c.args.list.now)) c.args.label.now refl, record { wrote = writes_in_calls_nil _ _; plain = plain });
 }
 
-pub loop-rule-preserved : goal.loop-rule-preserved
-loop-rule-preserved g c =
-    let steps = rw c.loop-rule.invariant.same at c.in-Some.ensures.steps in record {
-      same = steps.0;
-      done = λ plain.
-          let done = c.loop-rule.invariant.done plain in
-          let item = c.in_ok-write_displayed.ensures done.2.plain refl in (
-            done.0 ++ item.0,
-            rules_on (λ r. BreaksList r (certificate_list_of c.args.list.now)) c.args.label.now c.args.rules.now done.0 item.0 steps.1 (item.1.0, item.1.2) done.1,
-            has_written_append _ _ _ _ _ _ done.2 item.2,
-          );
-    }
+pub loop-broken-smaller : goal.loop-broken-smaller
+loop-broken-smaller g c = c.in-Some.ensures.fewer
 
-pub returns : goal.returns
-returns g c =
+pub loop-broken-preserved : goal.loop-broken-preserved
+loop-broken-preserved g c = record {
+  kept = kept_no_more (λ r. BreaksList r (signed_list_of c.args.list.now)) c.in-Some.ensures c.loop-broken.invariant.kept;
+  done = λ plain.
+      let done = c.loop-broken.invariant.done plain in
+      let item = c.in_ok-write_displayed.ensures done.2.plain refl in (
+        done.0 ++ item.0,
+        rules_on (λ r. BreaksList r (signed_list_of c.args.list.now)) c.args.label.now c.args.rules.now done.0 item.0 c.in-Some.ensures (item.1.0, item.1.2) done.1,
+        has_written_append _ _ _ _ _ _ done.2 item.2,
+      );
+}
+
+pub returns-clause-text : goal.returns-clause-text
+returns-clause-text g c =
     λ plain ok.
-    let done = c.loop-rule.invariant.done plain in
-    let steps = rw c.loop-rule.invariant.same at c.in-None.ensures.steps in
-    (done.0, rules_end (λ r. BreaksList r (certificate_list_of c.args.list.now)) c.args.label.now c.args.rules.now (list_rules_left c.loop-rule.rule-iterator) done.0 steps.1.0 done.1, done.2)
+    let done = c.loop-broken.invariant.done plain in
+    (done.0, rules_end (λ r. BreaksList r (signed_list_of c.args.list.now)) c.args.label.now c.args.rules.now _ done.0 c.in_default.ensures done.1, done.2)
+
+pub returns-clause-rules : goal.returns-clause-rules
+returns-clause-rules g c = kept_end (λ r. BreaksList r (signed_list_of c.args.list.now)) c.in_default.ensures c.loop-broken.invariant.kept

@@ -1,6 +1,5 @@
-use Rattle.std.proofs.Common.{refl, subst, sym}
+use Rattle.std.proofs.Common.{refl}
 use Rattle.std.proofs.lemmas.Bool.{false≢true}
-use Rattle.x509_rules.specs.Crl.ListRules.{BreaksList}
 use Rattle.x509_rule_facts.proofs.FirstLaws.{found_first, found_none, nothing_searched, searched_one}
 use Rattle.x509_rules.proofs.crl.revoked.first_broken_of_list.Goals as goal
 
@@ -8,10 +7,10 @@ pub loop-rule-init : goal.loop-rule-init
 loop-rule-init c = nothing_searched
 
 pub returns-then-examined_list_breaks : goal.returns-then-examined_list_breaks
-returns-then-examined_list_breaks c = found_first c.loop-rule.invariant c.in-Some.ensures.cases (subst (BreaksList c.in-Some.rule.now) c.examine_list-examined.ensures.list (c.if-examined_list_breaks.ensures.0 refl))
+returns-then-examined_list_breaks c = found_first c.loop-rule.invariant c.in-Some.ensures.cases (c.if-examined_list_breaks.ensures.0 refl)
 
 pub loop-rule-preserved : goal.loop-rule-preserved
-loop-rule-preserved c = searched_one c.loop-rule.invariant c.in-Some.ensures.cases (λ h. false≢true (c.if-examined_list_breaks.ensures.1 (subst (BreaksList c.in-Some.rule.now) (sym c.examine_list-examined.ensures.list) h)))
+loop-rule-preserved c = searched_one c.loop-rule.invariant c.in-Some.ensures.cases (λ h. false≢true (c.if-examined_list_breaks.ensures.1 h))
 
 pub returns : goal.returns
 returns c = found_none c.loop-rule.invariant c.in_default.ensures.cases
