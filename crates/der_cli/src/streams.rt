@@ -192,9 +192,18 @@ fn run_task<'n, 't, R: Files + Clock + AllocGlobal + Clone + Drop, I: Read, W: W
     match task {
         Task::Act(action) => run_action(rt, action, matches, terminal, own, input, out, err),
         Task::Diff => run_diff(rt, matches, terminal, own, input, out, err),
-        Task::Text => Ok(status_of(run_text(rt, matches, input, out, err)?)),
-        Task::Octets => Ok(status_of(run_octets(rt, matches, input, out, err)?)),
-        Task::Modules => Ok(status_of(run_modules(rt, matches, input, out, err)?)),
+        Task::Text => {
+            let is_text = run_text(rt, matches, input, out, err)?;
+            Ok(status_of(is_text))
+        }
+        Task::Octets => {
+            let are_octets = run_octets(rt, matches, input, out, err)?;
+            Ok(status_of(are_octets))
+        }
+        Task::Modules => {
+            let are_modules = run_modules(rt, matches, input, out, err)?;
+            Ok(status_of(are_modules))
+        }
     }
 }
 

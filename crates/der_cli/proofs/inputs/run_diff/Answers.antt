@@ -1,8 +1,8 @@
-use Rattle.std.proofs.Common.{◌≡◌, IfOk, List, codes, refl, subst, ℕ}
+use Rattle.std.proofs.Common.{List, codes, refl, subst, ℕ}
 use Rattle.std.proofs.lemmas.Result.{IfOk-weaker}
 use Rattle.clap.specs.Words.{found_of, rows_of}
 use Rattle.der_actions.specs.declared.options.Action.TheVariants.{Tree}
-use Rattle.der_cli.specs.Runs.{ComparesFiles, file_named, of_no_type, on_both}
+use Rattle.der_cli.specs.Runs.{ComparesFiles, RunsDiff, file_named, of_no_type, on_both}
 use Rattle.der_cli.proofs.Asking.{is_asked}
 use Rattle.der_cli.proofs.inputs.run_diff.Goals as goal
 
@@ -20,7 +20,7 @@ returns-clause-runs g c =
     let before = g.W.Write.contents c.args.out.now in
     let after = g.W.Write.contents c.diff_files.new.out in
     let asks = is_asked Tree rows c.args.terminal asked asked o c.diff_options.ensures refl (λ n e. refl) refl in
-    IfOk-weaker c.diff_files.result _ _
+    IfOk-weaker c.diff_files.result (ComparesFiles o c.file_of-first.result.now c.file_of-second.result.now input before after) (RunsDiff rows c.args.terminal input before after)
     (λ n compares.
     on_both o asks
     (subst (λ (f : List ℕ). ComparesFiles o f (file_named (codes "second") rows) input before after n) c.file_of-first.ensures

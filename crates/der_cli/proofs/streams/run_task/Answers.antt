@@ -19,31 +19,28 @@ returns-in-Diff-clause-runs g c =
     let new = g.W.Write.contents c.run_diff.new.out in
     subst (λ t. IfOk c.run_diff.result (RunsTask t rows c.args.terminal input old new)) (sym c.in-Diff.is) c.run_diff.ensures.runs
 
-pub returns-in-Text-clause-runs : goal.returns-in-Text-clause-runs
-returns-in-Text-clause-runs g c =
+pub returns-in_ok-is_text-in-Text-clause-runs : goal.returns-in_ok-is_text-in-Text-clause-runs
+returns-in_ok-is_text-in-Text-clause-runs g c =
     let rows = rows_of (found_of c.args.matches.now) in
     let input = g.I.Read.remaining c.args.input.now in
     let old = g.W.Write.contents c.args.out.now in
     let new = g.W.Write.contents c.run_text.new.out in
-    let done = c.in_ok-run_text.result in
-    let status = c.status_of.result in
-    subst (λ t. RunsTask t rows c.args.terminal input old new status) (sym c.in-Text.is) (done, c.in_ok-run_text.ensures, c.status_of.ensures.status)
+    subst (λ t. RunsTask t rows c.args.terminal input old new c.status_of.result) (sym c.in-Text.is)
+    (c.in_ok-is_text-in-Text.is_text, c.in_ok-is_text-in-Text.ensures, c.status_of.ensures.status)
 
-pub returns-in-Octets-clause-runs : goal.returns-in-Octets-clause-runs
-returns-in-Octets-clause-runs g c =
+pub returns-in_ok-are_octets-in-Octets-clause-runs : goal.returns-in_ok-are_octets-in-Octets-clause-runs
+returns-in_ok-are_octets-in-Octets-clause-runs g c =
     let rows = rows_of (found_of c.args.matches.now) in
     let input = g.I.Read.remaining c.args.input.now in
     let old = g.W.Write.contents c.args.out.now in
     let new = g.W.Write.contents c.run_octets.new.out in
-    let done = c.in_ok-run_octets.result in
-    let status = c.status_of-in-Octets.result in
-    subst (λ t. RunsTask t rows c.args.terminal input old new status) (sym c.in-Octets.is) (done, c.in_ok-run_octets.ensures, c.status_of-in-Octets.ensures.status)
+    subst (λ t. RunsTask t rows c.args.terminal input old new c.status_of-in-Octets.result) (sym c.in-Octets.is)
+    (c.in_ok-are_octets-in-Octets.are_octets, c.in_ok-are_octets-in-Octets.ensures, c.status_of-in-Octets.ensures.status)
 
-pub returns-in-Modules-clause-runs : goal.returns-in-Modules-clause-runs
-returns-in-Modules-clause-runs g c =
+pub returns-in_ok-are_modules-in-Modules-clause-runs : goal.returns-in_ok-are_modules-in-Modules-clause-runs
+returns-in_ok-are_modules-in-Modules-clause-runs g c =
     let rows = rows_of (found_of c.args.matches.now) in
     let input = g.I.Read.remaining c.args.input.now in
     let old = g.W.Write.contents c.args.out.now in
     let new = g.W.Write.contents c.run_modules.new.out in
-    let status = c.status_of-in-Modules.result in
-    subst (λ t. RunsTask t rows c.args.terminal input old new status) (sym c.in-Modules.is) c.status_of-in-Modules.ensures.bounded
+    subst (λ t. RunsTask t rows c.args.terminal input old new c.status_of-in-Modules.result) (sym c.in-Modules.is) c.status_of-in-Modules.ensures.bounded
