@@ -28,7 +28,7 @@ returns-in-Ok g c =
     let asked = c.args.asked in
     let form = c.in-Ok.form in
     let of = c.in-Ok.ensures.found in
-    let other = search rules in
+    let other : form ≢ Pem = search rules in
     on_decoded c.decoded.result c.octets_or_report.result (IsUndecoded asked i) (λ (v : Vec ℕ Global). IsDecoded asked i v.items)
     (λ failed. inl (without_octets form of other (reason_left c.decoded.result ((w : List ℕ) → ¬ Spells form i w) failed (c.decoded.ensures.err other))))
     (decodes_so c.decoded.result asked i form of (c.decoded.ensures.ok other)) c.octets_or_report.ensures

@@ -38,7 +38,9 @@ returns-in_default g c =
 
 pub loop-before-init : goal.loop-before-init
 loop-before-init g c = record {
-  joins = λ n others joins. let count : n ≡ 0 + n = omega arith in subst (λ m. JoinsBlocks m c.args.text.now others) count joins;
+  joins = λ n others joins.
+      let count : n ≡ 0 + n = omega arith in
+      subst (λ w. JoinsBlocks (0 + n) c.args.text.now (w ++ others)) (sym c.new-octets.ensures.items) (subst (λ m. JoinsBlocks m c.args.text.now others) count joins);
   after = after_none;
 }
 
