@@ -1,5 +1,4 @@
-use Rattle.std.proofs.Common.{◌≡◌, ◌∙◌, ◌+◌, ◌++◌, ◌<◌, [], Global, List, Vec, ap, append-nil, append_assoc, arith, refl, subst, suc, sym, ℕ}
-use Rattle.std.specs.Borrow.{Bor}
+use Rattle.std.proofs.Common.{◌≡◌, ◌∙◌, ◌+◌, ◌++◌, ◌<◌, [], Global, Vec, ap, append-nil, append_assoc, arith, refl, subst, suc, sym, ℕ}
 use Rattle.der_input.specs.Forms.{HasNoBlock}
 use Rattle.der_cli.specs.Inputs.{AreUndecoded, FailsAtBlock, JoinsBlocks, after_none, broken_block, failed_block, joins_more, joins_none, without_blocks}
 use Rattle.der_cli.proofs.Opening.{found_none}
