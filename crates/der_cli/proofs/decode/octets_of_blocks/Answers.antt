@@ -63,6 +63,4 @@ loop-before-preserved g c =
     }
 
 pub returns : goal.returns
-returns g c =
-    let begins = rw c.in-Ok-Some.field-0-is at c.in-Ok-Some.ensures.ok in
-    absurd (omega (arith, few_blocks (after_next _ _ _ _ c.loop-before.invariant.after begins refl)))
+returns g c = absurd (omega (arith, few_blocks c.loop-before.invariant.after, c.loop-before-test.false))
