@@ -25,10 +25,6 @@ or_memory (Ok v) Q N why f = tt
 or_memory (Err e) Q N (inl none) f = inl none
 or_memory (Err e) Q N (inr why) f = inr (f e why)
 
-pub only_memory : {A : Type 0} (r : Result A FormError) (N : Type 0) → IsErrAnd r (λ e. e ≡ OutOfMemory) → IfErr r (λ e. (e ≡ OutOfMemory) ⊎ N)
-only_memory (Ok v) N none = absurd none
-only_memory (Err e) N none = inl none
-
 -- of an error other than that, the reason is left
 pub reason_left : {A : Type 0} (r : Result A FormError) (N : Type 0) → IsErrAnd r (λ e. e ≢ OutOfMemory) → IfErr r (λ e. (e ≡ OutOfMemory) ⊎ N) → N
 reason_left (Ok v) N some why = absurd some

@@ -42,7 +42,10 @@ fn decoded(alloc: Global, form: Form, input: &[u8]) -> Result<Vec<u8>, FormError
     match form {
         Form::Hex => decode_hex(alloc, input),
         Form::Base64 => decode_base64(alloc, input),
-        Form::Der | Form::Pem => Ok(Vec::from_slice(alloc, input)?),
+        Form::Der | Form::Pem => match Vec::from_slice(alloc, input) {
+            Ok(octets) => Ok(octets),
+            Err(_) => Err(FormError::OutOfMemory),
+        },
     }
 }
 

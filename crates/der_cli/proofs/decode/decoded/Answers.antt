@@ -6,7 +6,7 @@ use Rattle.der_input.specs.declared.error.FormError.TheVariants as error
 use Rattle.der_input.specs.Faults.{IsBase64Error}
 use Rattle.der_input.specs.Plain.{characters_of, digits_of}
 use Rattle.der_cli.specs.Inputs.{Spells}
-use Rattle.der_cli.proofs.Opening.{only_memory, or_memory}
+use Rattle.der_cli.proofs.Opening.{or_memory}
 use Rattle.der_cli.proofs.Refusing.{no_octets, no_octets_after}
 use Rattle.der_cli.proofs.decode.decoded.Goals as goal
 
@@ -25,7 +25,3 @@ returns-in-Base64-clause-err c =
     let spelled = base64_decode_of standard_pad_indifferent (characters_of i) in
     λ whole. subst (λ form. IfErr r (λ e. (e ≡ error.OutOfMemory) ⊎ ((w : List ℕ) → Spells form i w → ⊥))) (sym c.in-Base64.is)
     (or_memory r (IsBase64Error i) ((w : List ℕ) → ¬ (spelled ≡ Ok w)) c.decode_base64.ensures.err (λ e failed. no_octets_after spelled failed.2.0 failed.2.1))
-
-pub returns-in_err-from_slice-in-Der-clause-err : goal.returns-in_err-from_slice-in-Der-clause-err
-returns-in_err-from_slice-in-Der-clause-err c =
-    λ whole. only_memory c.from_residual.result ((w : List ℕ) → Spells c.args.form c.args.input.now w → ⊥) c.from_residual.ensures.1

@@ -3,6 +3,7 @@ use Rattle.der_input.specs.Forms.{HasNoBlock}
 use Rattle.der_cli.specs.Inputs.{AreUndecoded, FailsAtBlock, JoinsBlocks, after_none, broken_block, failed_block, joins_more, joins_none, without_blocks}
 use Rattle.der_cli.proofs.Opening.{found_none}
 use Rattle.der_cli.proofs.Refusing.{after_next, before_first, few_blocks}
+use Rattle.der_cli.proofs.decode.octets_of_blocks.Goals.{else-loop-before-test, then-loop-before-test+in-Ok-Some+in_ok-decoded-in-Ok-Some+in-Some+in_ok-extend_from_slice-in-Ok-Some+else-before-before-end}
 use Rattle.der_cli.proofs.decode.octets_of_blocks.Goals as goal
 
 pub returns-in-Ok-None : goal.returns-in-Ok-None
@@ -63,4 +64,10 @@ loop-before-preserved g c =
     }
 
 pub returns : goal.returns
-returns g c = absurd (omega (arith, few_blocks c.loop-before.invariant.after, c.loop-before-test.false))
+returns g c =
+    elim c.loop-before-test.branch [
+      | else-loop-before-test w ↦ absurd (omega (arith, w.loop-before-test.false))
+      | then-loop-before-test+in-Ok-Some+in_ok-decoded-in-Ok-Some+in-Some+in_ok-extend_from_slice-in-Ok-Some+else-before-before-end w ↦
+          (let begins = rw w.in-Ok-Some.field-0-is at w.in-Ok-Some.ensures.ok in
+          absurd (omega (arith, few_blocks (after_next _ _ _ _ c.loop-before.invariant.after begins refl))))
+    ]
