@@ -170,7 +170,7 @@ export class Items {
   /** The innermost element of a document with an octet, or -1. */
   at(document, offset) {
     const { elements, begin } = this.documents[document];
-    if (!elements || elements.count === 0) return -1;
+    if (!elements) return -1;
     let low = 0, high = elements.count;
     while (low < high) {
       const middle = (low + high) >> 1;

@@ -119,8 +119,7 @@ function elementLines(elements, number, end, isFull) {
   const field = elements.fieldOf(number);
   if (field !== "") lines.push(["Field", field]);
   lines.push(["Path", elements.pathOf(number), "path"]);
-  const last = Math.max(row.offset, end - 1);
-  lines.push(["Octets", `${row.offset} to ${last}: ${sizesInWords(row)}`]);
+  lines.push(["Octets", `${row.offset} to ${end - 1}: ${sizesInWords(row)}`]);
   lines.push(["Header", hexOf(elements.octets.subarray(row.offset, row.offset + row.header), " "), "digits"]);
   const value = elements.valueOf(number, isFull).trim();
   if (value !== "") lines.push(["Value", value, isIdentifier(row) ? "identifier" : "value"]);

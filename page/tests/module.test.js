@@ -159,6 +159,18 @@ withModule("the type of an input, also by BER, and the names of its fields (RFC 
   assert.deepEqual(elementsIn("05 00").fields, { type: "", names: [] });
 });
 
+// Another program prints these lines: der tree --as none
+withModule("the line of an element is that of der tree", () => {
+  const runs = new URL("../runs/tree_without_names/stdout", DATA);
+  const stored = readFileSync(runs, "utf8").split("\n");
+  for (const name of ["certificate.der", "message.cms", "texts.der"]) {
+    const elements = reader.read(read(name));
+    const lines = Array.from({ length: elements.count }, (_, number) => elements.lineOf(number, false));
+    const begin = stored.indexOf(`${name}:`) + 1;
+    assert.deepEqual(lines, stored.slice(begin, begin + elements.count), name);
+  }
+});
+
 withModule("a long value is cut, or not", () => {
   const elements = elementsIn(`04 82 01 00 ${"ff".repeat(256)}`);
   assert.ok(elements.valueOf(0, false).length < 512);

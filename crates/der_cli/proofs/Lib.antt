@@ -1,4 +1,5 @@
 pub mod Asking
+pub mod Opening
 pub mod Refusing
 pub mod Showing
 pub mod Taking

@@ -18,6 +18,8 @@ use Rattle.der_actions.specs.declared.options.Naming.TheVariants.{Unnamed}
 use Rattle.der_actions.specs.declared.options.Options.{Options}
 use Rattle.der_actions.specs.declared.place.Place.{Place}
 use Rattle.der_actions.specs.declared.place.Place.TheVariants.{Path, Offset}
+use Rattle.der_cli.specs.declared.arguments.Task.{Task}
+use Rattle.der_cli.specs.declared.arguments.Task.TheVariants as task
 
 -- the subcommand of an action
 abbrev pub action_word : Action → List ℕ
@@ -27,6 +29,14 @@ action_word Json = codes "json"
 action_word Canon = codes "canon"
 action_word Get = codes "get"
 action_word Show = codes "show"
+
+-- the subcommand of a task
+abbrev pub task_word : Task → List ℕ
+task_word (task.Act a) = action_word a
+task_word task.Diff = codes "diff"
+task_word task.Text = codes "text"
+task_word task.Octets = codes "octets"
+task_word task.Modules = codes "asn1"
 
 -- the argument of --from
 abbrev pub form_word : Form → List ℕ

@@ -1,5 +1,5 @@
 -- The reading of an input, and the output for it.
-use Rattle.std.specs.Prelude.{◌≡◌, ◌≢◌, ◌<◌, ℕ, suc, Option, Some, None, List, [], ◌++◌, Ok, IsErr}
+use Rattle.std.specs.Prelude.{◌≡◌, ◌≢◌, ◌⊎◌, ◌<◌, ℕ, suc, Option, Some, None, List, [], ◌++◌, Ok}
 use Rattle.std.specs.Prelude.{if◌then◌else◌, IfSome, codes}
 use Rattle.std.specs.Str.{bytes_eq}
 use Rattle.base64.specs.Engines.{standard_pad_indifferent}
@@ -8,7 +8,7 @@ use Rattle.hex.specs.Hex.{decode_of as hex_decode_of}
 use Rattle.der_input.specs.declared.error.FormError.{FormError}
 use Rattle.der_input.specs.declared.form.Form.{Form}
 use Rattle.der_input.specs.declared.form.Form.TheVariants.{Der, Pem, Hex, Base64}
-use Rattle.der_input.specs.Blocks.{BeginsWithBlock, BreaksBlock, IsEncrypted}
+use Rattle.der_input.specs.Blocks.{BeginsWithBlock, BreaksBlock, IsEncrypted, SpellsLines}
 use Rattle.der_input.specs.Faults.{IsBase64Error}
 use Rattle.der_input.specs.Forms.{FindsForm, FindsNoForm, HasNoBlock}
 use Rattle.der_input.specs.Plain.{characters_of, digits_of}
@@ -35,12 +35,35 @@ Spells Hex i w = hex_decode_of (digits_of i) ≡ Ok w
 Spells Base64 i w = base64_decode_of standard_pad_indifferent (characters_of i) ≡ Ok w
 Spells Pem i w = ⊥
 
+-- no form is found for an input, or it encodes no octets in a form that has no blocks
+pub data SpellsNothing (asked : Option Form) (i : List ℕ) : Type 0 where
+  without_form : (e : FormError) → asked ≡ None → FindsNoForm i e → SpellsNothing asked i
+  without_octets : (form : Form) → IsFormOf asked i form → form ≢ Pem → ((w : List ℕ) → ¬ Spells form i w)
+      → SpellsNothing asked i
+
 -- the octets of the n blocks of a text, one after another
 pub data JoinsBlocks : ℕ → List ℕ → List ℕ → Type 0 where
   joins_none : {i : List ℕ} → HasNoBlock i → JoinsBlocks 0 i []
   joins_more : {n : ℕ} {i others : List ℕ} (label lines rest octets : List ℕ) → BeginsWithBlock i label lines rest
-      → ¬ IsEncrypted lines → base64_decode_of standard_pad_indifferent (characters_of lines) ≡ Ok octets
-      → JoinsBlocks n rest others → JoinsBlocks (suc n) i (octets ++ others)
+      → SpellsLines lines octets → JoinsBlocks n rest others → JoinsBlocks (suc n) i (octets ++ others)
+
+-- the rest of a text after n blocks
+pub data IsAfterBlocks (i : List ℕ) : ℕ → List ℕ → Type 0 where
+  after_none : IsAfterBlocks i 0 i
+  after_more : {n : ℕ} {j : List ℕ} (label lines rest : List ℕ) → IsAfterBlocks i n j
+      → BeginsWithBlock j label lines rest → IsAfterBlocks i (suc n) rest
+
+-- the lines of a block encode no octets: they are encrypted or aren't base64
+pub data AreUndecoded (lines : List ℕ) : Type 0 where
+  encrypted : IsEncrypted lines → AreUndecoded lines
+  no_base64 : (e : FormError) → IsBase64Error lines e → AreUndecoded lines
+
+-- A text has no block, or one with such lines, or one that is broken, after n others.
+pub data FailsAtBlock (Fails : List ℕ → Type 0) (i : List ℕ) : Type 0 where
+  without_blocks : HasNoBlock i → FailsAtBlock Fails i
+  failed_block : (n : ℕ) (j label lines rest : List ℕ) → IsAfterBlocks i n j → BeginsWithBlock j label lines rest
+      → Fails lines → FailsAtBlock Fails i
+  broken_block : (n : ℕ) (j : List ℕ) (e : FormError) → IsAfterBlocks i n j → BreaksBlock j e → FailsAtBlock Fails i
 
 -- the octets that an input encodes in a form: those of its blocks, at least one, or else of the whole
 abbrev pub Decodes : Form → List ℕ → List ℕ → Type 0
@@ -53,11 +76,14 @@ Decodes Base64 i w = Spells Base64 i w
 abbrev pub IsDecoded : Option Form → List ℕ → List ℕ → Type 0
 IsDecoded asked i w = (form : Form) × IsFormOf asked i form × Decodes form i w
 
+-- an input encodes no octets, nor do all its blocks
+abbrev pub IsUndecoded : Option Form → List ℕ → Type 0
+IsUndecoded asked i = SpellsNothing asked i ⊎ (IsFormOf asked i Pem × FailsAtBlock AreUndecoded i)
+
 -- a block with these lines is accepted, with this output
 pub record ReadsBlock (o : Options) (name label lines : List ℕ) (old new : Option (List ℕ)) : Type 0 where
   pub octets : List ℕ
-  pub readable : ¬ IsEncrypted lines
-  pub spells : base64_decode_of standard_pad_indifferent (characters_of lines) ≡ Ok octets
+  pub spells : SpellsLines lines octets
   pub between : Option (List ℕ)
   pub heading : WritesHeading o name label old between
   pub writes : WritesInside o.action o label octets between new
@@ -75,33 +101,15 @@ pub data ReadsInput (o : Options) (name i : List ℕ) (old new : Option (List �
       → ReadsInput o name i old new
   blocks : (n : ℕ) → IsFormOf o.form i Pem → 0 < n → ReadsBlocks o name n i old new → ReadsInput o name i old new
 
--- a block with these lines is rejected: they are encrypted or aren't base64, or an action rejects its octets
+-- a block with these lines is rejected: they encode no octets, or an action rejects these
 pub data RefusesBlock (o : Options) (lines : List ℕ) : Type 0 where
-  encrypted : IsEncrypted lines → RefusesBlock o lines
-  no_base64 : (e : FormError) → IsBase64Error lines e → RefusesBlock o lines
-  refused : (w : List ℕ) (old new : Option (List ℕ))
-      → base64_decode_of standard_pad_indifferent (characters_of lines) ≡ Ok w
-      → IsRefusedBy o.action o w old new → RefusesBlock o lines
+  undecoded : AreUndecoded lines → RefusesBlock o lines
+  refused : (w : List ℕ) (old new : Option (List ℕ)) → SpellsLines lines w → IsRefusedBy o.action o w old new
+      → RefusesBlock o lines
 
--- the rest of a text after n blocks
-pub data IsAfterBlocks (i : List ℕ) : ℕ → List ℕ → Type 0 where
-  after_none : IsAfterBlocks i 0 i
-  after_more : {n : ℕ} {j : List ℕ} (label lines rest : List ℕ) → IsAfterBlocks i n j
-      → BeginsWithBlock j label lines rest → IsAfterBlocks i (suc n) rest
-
--- A text has no block, or one that is rejected, or one that is broken after these.
-pub data RefusesBlocks (o : Options) (i : List ℕ) : Type 0 where
-  without_blocks : HasNoBlock i → RefusesBlocks o i
-  refused_block : (n : ℕ) (j label lines rest : List ℕ) → IsAfterBlocks i n j → BeginsWithBlock j label lines rest
-      → RefusesBlock o lines → RefusesBlocks o i
-  broken_block : (n : ℕ) (j : List ℕ) (e : FormError) → IsAfterBlocks i n j → BreaksBlock j e → RefusesBlocks o i
-
--- An input is rejected: no form is detected, it can't be decoded, its octets are rejected after this output, or its
--- blocks are rejected.
+-- An input is rejected: it encodes no octets, or they are rejected after this output, or its blocks are rejected.
 pub data RefusesInput (o : Options) (name i : List ℕ) (old new : Option (List ℕ)) : Type 0 where
-  without_form : (e : FormError) → o.form ≡ None → FindsNoForm i e → RefusesInput o name i old new
-  without_octets : (form : Form) → IsFormOf o.form i form → form ≢ Pem → ((w : List ℕ) → ¬ Spells form i w)
-      → RefusesInput o name i old new
+  undecoded_input : SpellsNothing o.form i → RefusesInput o name i old new
   refused_octets : (form : Form) (w : List ℕ) → IsFormOf o.form i form → Spells form i w
       → RefusesFile o name w old new → RefusesInput o name i old new
-  refused_blocks : IsFormOf o.form i Pem → RefusesBlocks o i → RefusesInput o name i old new
+  refused_blocks : IsFormOf o.form i Pem → FailsAtBlock (RefusesBlock o) i → RefusesInput o name i old new

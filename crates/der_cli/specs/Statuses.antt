@@ -5,7 +5,7 @@ use Rattle.clap.specs.declared.error.kind.ErrorKind.TheVariants.{DisplayHelp, Di
 use Rattle.der_actions.specs.declared.diff.Difference.{Difference}
 use Rattle.der_actions.specs.declared.diff.Difference.TheVariants.{Same, Different}
 use Rattle.der_actions.specs.declared.options.Options.{Options}
-use Rattle.der_actions.specs.Differences.{Compares}
+use Rattle.der_actions.specs.Differences.{Compares, WritesDifference}
 
 -- 0 if all inputs are accepted, 1 if one is rejected, 2 if the arguments are wrong, and 141 if the reader of the output
 -- closed it
@@ -23,9 +23,10 @@ status_of_comparison (Some Same) = 0
 status_of_comparison (Some Different) = 1
 status_of_comparison None = 2
 
--- the status of the comparison of these octets
-abbrev pub IsStatusOf : Options → List ℕ → List ℕ → ℕ → Type 0
-IsStatusOf o i j n = (d : Option Difference) × Compares o i j d × (n ≡ status_of_comparison d)
+-- two inputs are compared and their changes are written, and the status says what is found
+abbrev pub ComparesTo : Options → List ℕ → List ℕ → Option (List ℕ) → Option (List ℕ) → ℕ → Type 0
+ComparesTo o i j old new n =
+    (d : Option Difference) × Compares o i j d × WritesDifference o i j old new d × (n ≡ status_of_comparison d)
 
 -- the status after a text about the command line: 0 for the help and the version, 2 for an error
 pub record IsStatusTold (k : ErrorKind) (status : ℕ) : Type 0 where

@@ -1,6 +1,6 @@
 -- The files that a run takes.
-use Rattle.std.specs.Prelude.{◌≡◌, ◌≢◌, ◌&&◌, ◌||◌, ℕ, not, nat_lt, Bool, true, false, Option, List, [], ◌∷◌, ◌++◌}
-use Rattle.std.specs.Prelude.{length, codes}
+use Rattle.std.specs.Prelude.{◌≡◌, ◌≢◌, ◌&&◌, ◌||◌, ℕ, not, nat_lt, Bool, true, false, Option, Some, None}
+use Rattle.std.specs.Prelude.{List, [], ◌∷◌, ◌++◌, length, codes}
 use Rattle.std.specs.Io.KnownBytes.{Keeps}
 use Rattle.der_actions.specs.declared.options.Action.{Action}
 use Rattle.der_actions.specs.declared.options.Action.TheVariants.{Tree, Check, Json, Canon, Get, Show}
@@ -8,11 +8,21 @@ use Rattle.der_actions.specs.declared.options.Options.{Options}
 use Rattle.der_cli.specs.declared.summary.Outcome.{Outcome}
 use Rattle.der_cli.specs.declared.summary.Outcome.TheVariants.{Accepted, Rejected, Unread}
 use Rattle.der_cli.specs.Counts.{is_accepted}
-use Rattle.der_cli.specs.Inputs.{IsReadFrom, ReadsInput, RefusesInput, shown_name}
+use Rattle.der_input.specs.declared.form.Form.{Form}
+use Rattle.der_cli.specs.Inputs.{IsDecoded, IsReadFrom, IsUndecoded, ReadsInput, RefusesInput, shown_name}
 
 -- only `-` reads the standard input
 abbrev pub LeavesInput : List ℕ → Option (List ℕ) → Option (List ℕ) → Type 0
 LeavesInput name input left = name ≢ codes "-" → left ≡ input
+
+-- A file is read and decoded, in the given form or else in the one that is detected; or it can't be decoded or read.
+-- What is left of the standard input follows it.
+pub data OpensFile (asked : Option Form) (name : List ℕ) (input left : Option (List ℕ)) : Option (List ℕ) → Type 0 where
+  decoded : (i octets : List ℕ) → LeavesInput name input left → IsReadFrom input name i → IsDecoded asked i octets
+      → OpensFile asked name input left (Some octets)
+  undecoded : (i : List ℕ) → LeavesInput name input left → IsReadFrom input name i → IsUndecoded asked i
+      → OpensFile asked name input left None
+  unopened : LeavesInput name input left → OpensFile asked name input left None
 
 -- A file is accepted, rejected or can't be read, with this output. What is left of the standard input follows it.
 pub data TakesFile (o : Options) (name : List ℕ) (input left old new : Option (List ℕ)) : Outcome → Type 0 where

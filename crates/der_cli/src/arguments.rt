@@ -4,7 +4,9 @@ ghost use Rattle.clap.specs.Words.{first_of, found_of, rows_of};
 ghost use Rattle.der_input.specs.declared.form.Form.{Form};
 ghost use Rattle.der_cli.specs.Arguments.{Asks, AsksLimit, AsksPlace, IsNumberOf, IsOffsetIn, IsPlaceNamed, NamesForm};
 ghost use Rattle.der_cli.specs.Arguments.{action_word, der_if, form_word, has_flag, rules_asked, strings_asked};
+ghost use Rattle.der_cli.specs.Arguments.{task_word};
 ghost use Rattle.der_actions.specs.declared.options.Action.{Action};
+ghost use Rattle.der_cli.specs.declared.arguments.Task.{Task};
 
 use clap::ArgMatches;
 use der_actions::options::{Action, Naming, Options};
@@ -12,6 +14,17 @@ use der_actions::place::Place;
 use der_elements::Rules;
 use der_input::Form;
 use der_print::{Limit, Style};
+
+/// What a subcommand does.
+#[derive(Clone, Copy)]
+pub(crate) enum Task {
+    Act(Action),
+    Diff,
+    Text,
+    Octets,
+    /// Prints the types of modules of ASN.1.
+    Modules,
+}
 
 /// The options that the arguments after a subcommand give, except for the type that names elements. The style of lines
 /// is that of the terminal, unless an argument changes it.
@@ -167,8 +180,21 @@ fn offset_in(word: &str) -> Option<usize>
     }
 }
 
+/// The task of a subcommand.
+pub(crate) fn task_named(word: &str) -> Task
+    ensures { (task : Task) → word.now ≡ task_word task → result ≡ task }
+{
+    match word {
+        "diff" => Task::Diff,
+        "text" => Task::Text,
+        "octets" => Task::Octets,
+        "asn1" => Task::Modules,
+        _ => Task::Act(action_named(word)),
+    }
+}
+
 /// The action of a subcommand.
-pub(crate) fn action_named(word: &str) -> Action
+fn action_named(word: &str) -> Action
     ensures { (action : Action) → word.now ≡ action_word action → result ≡ action }
 {
     match word {
@@ -182,7 +208,7 @@ pub(crate) fn action_named(word: &str) -> Action
 }
 
 /// The form that the arguments give, if they give one.
-fn form_of(matches: &ArgMatches<'_>) -> Option<Form>
+pub(crate) fn form_of(matches: &ArgMatches<'_>) -> Option<Form>
     ensures { NamesForm (first_of (codes "from") (rows_of (found_of matches.now))) result }
 {
     match word_of(matches, "from") {
@@ -192,7 +218,7 @@ fn form_of(matches: &ArgMatches<'_>) -> Option<Form>
 }
 
 /// The form with this name.
-pub(crate) fn form_named(word: &str) -> Option<Form>
+fn form_named(word: &str) -> Option<Form>
     ensures found { (form : Form) → word.now ≡ form_word form → result ≡ Some form }
     ensures only { IfSome result (λ form. word.now ≡ form_word form) }
 {

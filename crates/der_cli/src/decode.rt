@@ -1,8 +1,10 @@
 //! The octets of an input in any form.
-ghost use Rattle.std.specs.Prelude.{◌≡◌, ◌≢◌, ◌<◌, ℕ, IfOk, IfSome, Ok};
+ghost use Rattle.std.specs.Prelude.{◌≡◌, ◌≢◌, ◌⊎◌, ◌<◌, ℕ, IfErr, IfOk, IfSome, IsErrAnd, List, MatchOption, Ok};
 ghost use Rattle.der_input.specs.Blocks.{SpellsLines, lines_of};
+ghost use Rattle.der_input.specs.declared.error.FormError.{FormError};
 ghost use Rattle.der_input.specs.declared.form.Form.{Form};
-ghost use Rattle.der_cli.specs.Inputs.{Decodes, IsDecoded, JoinsBlocks};
+ghost use Rattle.der_cli.specs.Inputs.{AreUndecoded, Decodes, FailsAtBlock, IsDecoded, IsUndecoded, JoinsBlocks};
+ghost use Rattle.der_cli.specs.Inputs.{Spells};
 
 use crate::run::form_in;
 use der_actions::label::shown_label;
@@ -21,7 +23,8 @@ pub(crate) fn octets_in<X: Write>(
     input: &[u8],
     err: &mut X,
 ) -> io::Result<Option<Vec<u8>>>
-    ensures { IfOk result (λ found. IfSome found (λ octets. IsDecoded asked input.now octets.items)) }
+    ensures { IfOk result (λ found. MatchOption found (IsUndecoded asked input.now)
+        (λ octets. IsDecoded asked input.now octets.items)) }
 {
     match form_in(asked, input) {
         Ok(Form::Pem) => octets_of_blocks(alloc, origin, input, err),
@@ -32,12 +35,17 @@ pub(crate) fn octets_in<X: Write>(
 
 /// The octets of an input in a form that has no blocks.
 fn decoded(alloc: Global, form: Form, input: &[u8]) -> Result<Vec<u8>, FormError>
-    ensures { form ≢ Form.Pem → IfOk result (λ octets. Decodes form input.now octets.items) }
+    ensures ok { form ≢ Form.Pem → IfOk result (λ octets. Decodes form input.now octets.items) }
+    ensures err { form ≢ Form.Pem
+        → IfErr result (λ e. (e ≡ FormError.OutOfMemory) ⊎ ((w : List ℕ) → Spells form input.now w → ⊥)) }
 {
     match form {
         Form::Hex => decode_hex(alloc, input),
         Form::Base64 => decode_base64(alloc, input),
-        Form::Der | Form::Pem => Ok(Vec::from_slice(alloc, input)?),
+        Form::Der | Form::Pem => match Vec::from_slice(alloc, input) {
+            Ok(octets) => Ok(octets),
+            Err(_) => Err(FormError::OutOfMemory),
+        },
     }
 }
 
@@ -48,7 +56,8 @@ fn octets_or_report<X: Write>(
     decoded: Result<Vec<u8>, FormError>,
     err: &mut X,
 ) -> io::Result<Option<Vec<u8>>>
-    ensures { IfOk result (λ found. IfSome found (λ octets. decoded ≡ Ok octets)) }
+    ensures { IfOk result (λ found. MatchOption found (IsErrAnd decoded (λ e. e ≢ FormError.OutOfMemory))
+        (λ octets. decoded ≡ Ok octets)) }
 {
     match decoded {
         Ok(octets) => Ok(Some(octets)),
@@ -72,7 +81,7 @@ fn octets_of_blocks<X: Write>(
     text: &[u8],
     err: &mut X,
 ) -> io::Result<Option<Vec<u8>>>
-    ensures { IfOk result (λ found. IfSome found
+    ensures { IfOk result (λ found. MatchOption found (FailsAtBlock AreUndecoded text.now)
         (λ octets. (n : ℕ) × (0 < n) × JoinsBlocks n text.now octets.items)) }
 {
     let mut octets = Vec::new(alloc);
@@ -114,7 +123,8 @@ fn octets_of_block<'x, X: Write>(
     block: &Block<'x>,
     err: &mut X,
 ) -> io::Result<Option<Vec<u8>>>
-    ensures { IfOk result (λ found. IfSome found (λ octets. SpellsLines (lines_of block.now) octets.items)) }
+    ensures { IfOk result (λ found. MatchOption found (AreUndecoded (lines_of block.now))
+        (λ octets. SpellsLines (lines_of block.now) octets.items)) }
 {
     let text = shown_label(alloc, block.label)?;
     let name = BlockName {

@@ -1,14 +1,16 @@
 //! The files to read, and standard input.
-ghost use Rattle.std.specs.Prelude.{◌≡◌, ◌≢◌, ◌≤◌, IfOk, codes, false, length, map, nat_lt, string_bytes, unwrap_or};
-ghost use Rattle.clap.specs.Words.{first_of, found_of, rows_of};
+ghost use Rattle.std.specs.Prelude.{◌≡◌, ◌≢◌, ◌≤◌, IfOk, IfSome, codes, false, length, map, nat_lt, option_map};
+ghost use Rattle.std.specs.Prelude.{string_bytes};
+ghost use Rattle.clap.specs.Words.{found_of, rows_of};
 ghost use Rattle.der_actions.specs.declared.options.Action.{Action};
 ghost use Rattle.der_cli.specs.Arguments.{Asks};
 ghost use Rattle.der_cli.specs.Counts.{are_accepted, outcome_of};
 ghost use Rattle.der_cli.specs.Inputs.{IsReadFrom, shown_name};
-ghost use Rattle.der_cli.specs.Statuses.{IsStatusOf};
-ghost use Rattle.der_cli.specs.Taken.{RunsFiles, TakesFile, TakesFiles, among, has_summary};
+ghost use Rattle.der_cli.specs.Runs.{ComparesFiles, RunsDiff, RunsOctets, RunsText, file_named};
+ghost use Rattle.der_cli.specs.Statuses.{ComparesTo};
+ghost use Rattle.der_cli.specs.Taken.{OpensFile, RunsFiles, TakesFile, TakesFiles, among, has_summary};
 
-use crate::arguments::{form_named, options_of, word_of};
+use crate::arguments::{form_of, options_of, word_of};
 use crate::decode::octets_in;
 use crate::folders::list_files;
 use crate::modules::asked_naming;
@@ -187,7 +189,9 @@ pub(crate) fn run_diff<'n, 't, R: Files + AllocGlobal, I: Read, W: Write, X: Wri
     out: &mut W,
     err: &mut X,
 ) -> io::Result<u8>
-    ensures { IfOk result (λ status. status ≤ 2) }
+    ensures runs { IfOk result (RunsDiff (rows_of (found_of matches.now)) terminal (I.remaining input.old)
+        (W.contents out.old) (W.contents out.new)) }
+    ensures bounded { IfOk result (λ status. status ≤ 2) }
 {
     let types = KnownTypes::new();
     let Some(naming) = asked_naming(rt, Action::Tree, matches, &types, err)? else {
@@ -198,76 +202,49 @@ pub(crate) fn run_diff<'n, 't, R: Files + AllocGlobal, I: Read, W: Write, X: Wri
         naming,
         ..diff_options(matches, terminal)
     };
-    match (matches.get_str("first"), matches.get_str("second")) {
-        (Some(first), Some(second)) => diff_files(rt, &options, (first, second), input, out, err),
-        _ => Ok(TROUBLE),
-    }
+    let first = file_of(matches, "first");
+    let second = file_of(matches, "second");
+    diff_files(rt, &options, first, second, input, out, err)
 }
 
 /// Compares two files. Returns the exit status.
 fn diff_files<R: Files + AllocGlobal, I: Read, W: Write, X: Write>(
     rt: &R,
     options: &Options<'_>,
-    names: (&str, &str),
+    first: &str,
+    second: &str,
     input: &mut I,
     out: &mut W,
     err: &mut X,
 ) -> io::Result<u8>
-    ensures { IfOk result (λ status. status ≤ 2) }
+    ensures compares { IfOk result (ComparesFiles options.now first.now second.now (I.remaining input.old)
+        (W.contents out.old) (W.contents out.new)) }
+    ensures bounded { IfOk result (λ status. status ≤ 2) }
 {
-    match both_sides(rt, options.form, names, input, err)? {
-        Some(both) => status_of_both(rt.alloc(), options, names, both, out, err),
-        None => Ok(TROUBLE),
-    }
+    let Some(old) = side(rt, options.form, first, input, err)? else {
+        return Ok(TROUBLE);
+    };
+    let Some(new) = side(rt, options.form, second, input, err)? else {
+        return Ok(TROUBLE);
+    };
+    let names = (shown(first), shown(second));
+    status_of_sides(rt.alloc(), options, names, &old, &new, out, err)
 }
 
 /// The exit status for a comparison of the octets of two files.
-fn status_of_both<W: Write, X: Write>(
-    alloc: Global,
-    options: &Options<'_>,
-    names: (&str, &str),
-    both: (Vec<u8>, Vec<u8>),
-    out: &mut W,
-    err: &mut X,
-) -> io::Result<u8>
-    ensures { IfOk result (λ status. status ≤ 2) }
-{
-    let sides = Sides {
-        names: (shown(names.0), shown(names.1)),
-        old: &both.0,
-        new: &both.1,
-    };
-    status_of_sides(alloc, options, sides, out, err)
-}
-
-/// The octets of two files. None if one can't be read or decoded, which is reported.
-fn both_sides<R: Files + AllocGlobal, I: Read, X: Write>(
-    rt: &R,
-    form: Option<Form>,
-    names: (&str, &str),
-    input: &mut I,
-    err: &mut X,
-) -> io::Result<Option<(Vec<u8>, Vec<u8>)>> {
-    let Some(old) = side(rt, form, names.0, input, err)? else {
-        return Ok(None);
-    };
-    match side(rt, form, names.1, input, err)? {
-        Some(new) => Ok(Some((old, new))),
-        None => Ok(None),
-    }
-}
-
-/// The exit status for a comparison.
 fn status_of_sides<W: Write, X: Write>(
     alloc: Global,
     options: &Options<'_>,
-    sides: Sides<'_>,
+    names: (&str, &str),
+    old: &[u8],
+    new: &[u8],
     out: &mut W,
     err: &mut X,
 ) -> io::Result<u8>
-    ensures status { IfOk result (IsStatusOf options.now sides.entry.old.now sides.entry.new.now) }
+    ensures status { IfOk result (ComparesTo options.now old.now new.now (W.contents out.old) (W.contents out.new)) }
     ensures bounded { IfOk result (λ status. status ≤ 2) }
 {
+    let sides = Sides { names, old, new };
     let found = compare(alloc, options, sides, out, err)?;
     Ok(status_of_comparison(found))
 }
@@ -286,7 +263,10 @@ fn side<R: Files + AllocGlobal, I: Read, X: Write>(
     name: &str,
     input: &mut I,
     err: &mut X,
-) -> io::Result<Option<Vec<u8>>> {
+) -> io::Result<Option<Vec<u8>>>
+    ensures { IfOk result (λ found. OpensFile form name.now (I.remaining input.old) (I.remaining input.new)
+        (option_map (λ v. v.items) found)) }
+{
     let Some(octets) = read_or_report(rt, name, input, err)? else {
         return Ok(None);
     };
@@ -303,7 +283,11 @@ fn read_or_report<R: Files + AllocGlobal, I: Read, X: Write>(
     name: &str,
     input: &mut I,
     err: &mut X,
-) -> io::Result<Option<Vec<u8>>> {
+) -> io::Result<Option<Vec<u8>>>
+    ensures read { IfOk result (λ found. IfSome found
+        (λ octets. IsReadFrom (I.remaining input.old) name.now octets.items)) }
+    ensures others { name.now ≢ codes "-" → I.remaining input.new ≡ I.remaining input.old }
+{
     match read_file(rt, name, input) {
         Ok(octets) => Ok(Some(octets)),
         Err(e) => {
@@ -320,9 +304,12 @@ pub(crate) fn run_text<R: Files + AllocGlobal, I: Read, W: Write, X: Write>(
     input: &mut I,
     out: &mut W,
     err: &mut X,
-) -> io::Result<bool> {
-    let form = matches.get_str("from").and_then(form_named);
-    let Some(octets) = side(rt, form, file_of(matches), input, err)? else {
+) -> io::Result<bool>
+    ensures { IfOk result (RunsText (rows_of (found_of matches.now)) (I.remaining input.old)
+        (W.contents out.old) (W.contents out.new)) }
+{
+    let form = form_of(matches);
+    let Some(octets) = side(rt, form, file_of(matches, "file"), input, err)? else {
         return Ok(false);
     };
     write_text(rt.alloc(), &octets, out)?;
@@ -336,17 +323,20 @@ pub(crate) fn run_octets<R: Files + AllocGlobal, I: Read, W: Write, X: Write>(
     input: &mut I,
     out: &mut W,
     err: &mut X,
-) -> io::Result<bool> {
-    let name = file_of(matches);
+) -> io::Result<bool>
+    ensures { IfOk result (RunsOctets (rows_of (found_of matches.now)) (I.remaining input.old)
+        (W.contents out.old) (W.contents out.new)) }
+{
+    let name = file_of(matches, "file");
     let Some(text) = read_or_report(rt, name, input, err)? else {
         return Ok(false);
     };
     write_octets(rt.alloc(), shown(name), &text, out, err)
 }
 
-/// The file that the arguments name, else standard input.
-fn file_of<'a>(matches: &ArgMatches<'a>) -> &'a str
-    ensures { result.now ≡ unwrap_or (first_of (codes "file") (rows_of (found_of matches.now))) (codes "-") }
+/// The file of an argument, else standard input.
+fn file_of<'a>(matches: &ArgMatches<'a>, argument: &str) -> &'a str
+    ensures { result.now ≡ file_named argument.now (rows_of (found_of matches.now)) }
 {
-    word_of(matches, "file").unwrap_or(DASH)
+    word_of(matches, argument).unwrap_or(DASH)
 }

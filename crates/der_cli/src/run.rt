@@ -5,8 +5,8 @@ ghost use Rattle.der_input.specs.declared.error.FormError.{FormError};
 ghost use Rattle.der_input.specs.declared.form.Form.{Form};
 ghost use Rattle.der_input.specs.Blocks.{label_of, lines_of};
 ghost use Rattle.der_input.specs.Forms.{FindsNoForm};
-ghost use Rattle.der_cli.specs.Inputs.{IsFormOf, ReadsBlock, ReadsBlocks, ReadsInput};
-ghost use Rattle.der_cli.specs.Inputs.{RefusesBlock, RefusesBlocks, RefusesInput};
+ghost use Rattle.der_cli.specs.Inputs.{FailsAtBlock, IsFormOf, ReadsBlock, ReadsBlocks, ReadsInput, RefusesBlock};
+ghost use Rattle.der_cli.specs.Inputs.{RefusesInput};
 ghost use Rattle.der_actions.specs.Outputs.{IsChecked};
 ghost use Rattle.der_cli.specs.Outputs.{IsRefusedBy, RefusesFile, Writes, WritesFile, WritesHeading};
 ghost use Rattle.der_cli.specs.Outputs.{WritesInside, WritesName, has_heading};
@@ -192,7 +192,7 @@ fn act_on_blocks<W: Write, X: Write>(
 ) -> io::Result<bool>
     ensures read { IfOk result (λ ok. IsTrue ok → (n : ℕ) × (0 < n)
         × ReadsBlocks options.now name.now n text.now (W.contents out.old) (W.contents out.new)) }
-    ensures refused { IfOk result (λ ok. ok ≡ false → RefusesBlocks options.now text.now) }
+    ensures refused { IfOk result (λ ok. ok ≡ false → FailsAtBlock (RefusesBlock options.now) text.now) }
 {
     let mut rest = text;
     let mut are_read = true;

@@ -5,11 +5,11 @@ ghost use Rattle.std.specs.Process.{exit_status};
 ghost use Rattle.std.specs.declared.io.ErrorKind.{ErrorKind};
 ghost use Rattle.clap.specs.Words.{found_of, kind_of, rows_of};
 ghost use Rattle.der_cli.specs.Arguments.{has_flag};
-ghost use Rattle.der_cli.specs.Runs.{RunsAction, files_named};
+ghost use Rattle.der_cli.specs.Runs.{RunsAction, RunsTask, files_named};
 ghost use Rattle.der_cli.specs.Statuses.{IsStatus, IsStatusTold};
 ghost use Rattle.der_cli.specs.Taken.{RunsFiles};
 
-use crate::arguments::{action_named, has_flag, options_of, word_of};
+use crate::arguments::{Task, has_flag, options_of, task_named};
 use crate::command::command;
 use crate::inputs::{DASH, run_diff, run_files, run_octets, run_text};
 use crate::modules::{asked_naming, run_modules};
@@ -130,16 +130,17 @@ fn run_subcommand<
     let Some((name, matches)) = matches.subcommand() else {
         return Ok(USAGE);
     };
+    let task = task_named(name);
     let mut out = BufWriter::new(rt.alloc(), out)?;
-    let status = run_with_table(rt, name, matches, terminal, &mut input, &mut out, err)?;
+    let status = run_with_table(rt, task, matches, terminal, &mut input, &mut out, err)?;
     out.flush()?;
     Ok(status)
 }
 
-/// Reads the table of names, if there is one, and runs the subcommand with this name.
+/// Reads the table of names, if there is one, and runs the task.
 fn run_with_table<R: Files + Clock + AllocGlobal + Clone + Drop, I: Read, W: Write, X: Write>(
     rt: &R,
-    name: &str,
+    task: Task,
     matches: &ArgMatches<'_>,
     terminal: Style,
     input: &mut I,
@@ -149,15 +150,15 @@ fn run_with_table<R: Files + Clock + AllocGlobal + Clone + Drop, I: Read, W: Wri
     ensures { IfOk result (λ status. status ≤ 2) }
 {
     match table_text(rt, matches.get_str("names"), err)? {
-        Some(table) => run_by_table(rt, name, matches, terminal, &table, input, out, err),
+        Some(table) => run_by_table(rt, task, matches, terminal, &table, input, out, err),
         None => Ok(USAGE),
     }
 }
 
-/// Runs the subcommand with this name, with the text of a table of names.
+/// Runs the task with the text of a table of names.
 fn run_by_table<R: Files + Clock + AllocGlobal + Clone + Drop, I: Read, W: Write, X: Write>(
     rt: &R,
-    name: &str,
+    task: Task,
     matches: &ArgMatches<'_>,
     terminal: Style,
     table: &str,
@@ -168,15 +169,15 @@ fn run_by_table<R: Files + Clock + AllocGlobal + Clone + Drop, I: Read, W: Write
     ensures { IfOk result (λ status. status ≤ 2) }
 {
     match names_in(rt.alloc(), matches.get_str("names"), table, err)? {
-        Some(names) => run_named(rt, name, matches, terminal, Some(&names), input, out, err),
+        Some(names) => run_task(rt, task, matches, terminal, Some(&names), input, out, err),
         None => Ok(USAGE),
     }
 }
 
-/// Runs the subcommand with this name.
-fn run_named<'n, 't, R: Files + Clock + AllocGlobal + Clone + Drop, I: Read, W: Write, X: Write>(
+/// Runs the task.
+fn run_task<'n, 't, R: Files + Clock + AllocGlobal + Clone + Drop, I: Read, W: Write, X: Write>(
     rt: &R,
-    name: &str,
+    task: Task,
     matches: &ArgMatches<'_>,
     terminal: Style,
     own: Option<&'n OwnNames<'t>>,
@@ -184,19 +185,26 @@ fn run_named<'n, 't, R: Files + Clock + AllocGlobal + Clone + Drop, I: Read, W: 
     out: &mut W,
     err: &mut X,
 ) -> io::Result<u8>
-    ensures { IfOk result (λ status. status ≤ 2) }
+    ensures runs { IfOk result (RunsTask task (rows_of (found_of matches.now)) terminal (I.remaining input.old)
+        (W.contents out.old) (W.contents out.new)) }
+    ensures bounded { IfOk result (λ status. status ≤ 2) }
 {
-    let are_read = match name {
-        "diff" => return run_diff(rt, matches, terminal, own, input, out, err),
-        "text" => run_text(rt, matches, input, out, err)?,
-        "octets" => run_octets(rt, matches, input, out, err)?,
-        "asn1" => run_modules(rt, matches, input, out, err)?,
-        _ => {
-            let action = action_named(name);
-            return run_action(rt, action, matches, terminal, own, input, out, err);
+    match task {
+        Task::Act(action) => run_action(rt, action, matches, terminal, own, input, out, err),
+        Task::Diff => run_diff(rt, matches, terminal, own, input, out, err),
+        Task::Text => {
+            let is_text = run_text(rt, matches, input, out, err)?;
+            Ok(status_of(is_text))
         }
-    };
-    Ok(status_of(are_read))
+        Task::Octets => {
+            let are_octets = run_octets(rt, matches, input, out, err)?;
+            Ok(status_of(are_octets))
+        }
+        Task::Modules => {
+            let are_modules = run_modules(rt, matches, input, out, err)?;
+            Ok(status_of(are_modules))
+        }
+    }
 }
 
 /// Runs an action on the files of its subcommand, or reports that the type isn't known.

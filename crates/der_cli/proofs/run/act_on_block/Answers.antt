@@ -3,7 +3,7 @@ use Rattle.der_input.specs.declared.error.FormError.{FormError}
 use Rattle.der_input.specs.declared.error.FormError.TheVariants.{OutOfMemory}
 use Rattle.der_input.specs.Blocks.{RefusesLines, label_of, lines_of}
 use Rattle.der_actions.specs.declared.options.Options.{Options}
-use Rattle.der_cli.specs.Inputs.{ReadsBlock, RefusesBlock, encrypted, no_base64, refused}
+use Rattle.der_cli.specs.Inputs.{ReadsBlock, RefusesBlock, encrypted, no_base64, refused, undecoded}
 use Rattle.der_cli.specs.Outputs.{IsRefusedBy, WritesInside}
 use Rattle.der_actions.proofs.Printing.{then_reads, then_refuses}
 use Rattle.der_cli.proofs.Refusing.{refuses_all}
@@ -12,8 +12,8 @@ use Rattle.der_cli.proofs.run.act_on_block.Goals as goal
 -- lines that aren't decoded are those of a block that is rejected
 of_lines : {o : Options} {lines : List ℕ} (e : FormError) → ¬ (e ≡ OutOfMemory) → RefusesLines lines e → RefusesBlock o lines
 of_lines e some (inl none) = absurd (some none)
-of_lines e some (inr (inl locked)) = encrypted locked.1
-of_lines e some (inr (inr why)) = no_base64 e why
+of_lines e some (inr (inl locked)) = undecoded (encrypted locked.1)
+of_lines e some (inr (inr why)) = undecoded (no_base64 e why)
 
 pub returns-in-Ok-clause-read : goal.returns-in-Ok-clause-read
 returns-in-Ok-clause-read g c =
@@ -25,8 +25,7 @@ returns-in-Ok-clause-read g c =
     (ReadsBlock o c.args.name.now (label_of block) (lines_of block) (g.W.Write.contents c.args.out.now) new)
     (λ written. record {
       octets = c.as_slice.result.now;
-      readable = c.in-Ok.ensures.ok.0;
-      spells = cc (c.in-Ok.ensures.ok.1, c.as_slice.ensures.value);
+      spells = (c.in-Ok.ensures.ok.0, cc (c.in-Ok.ensures.ok.1, c.as_slice.ensures.value));
       between = between;
       heading = c.in_ok-write_label.ensures;
       writes = written;
@@ -39,7 +38,7 @@ returns-in-Ok-clause-refused g c =
     let new = g.W.Write.contents c.act.new.out in
     let between = g.W.Write.contents c.write_label.new.out in
     then_refuses c.act.result (IsRefusedBy o.action o w between new) (RefusesBlock o (lines_of c.args.block.now))
-    (λ no. refused w between new (cc (c.in-Ok.ensures.ok.1, c.as_slice.ensures.value)) no) c.act.ensures.refused
+    (λ no. refused w between new (c.in-Ok.ensures.ok.0, cc (c.in-Ok.ensures.ok.1, c.as_slice.ensures.value)) no) c.act.ensures.refused
 
 pub returns : goal.returns
 returns g c = record {

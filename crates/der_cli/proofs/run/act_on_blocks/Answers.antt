@@ -3,7 +3,7 @@ use Rattle.std.specs.Borrow.{Bor}
 use Rattle.der_input.specs.Blocks.{BeginsWithBlock}
 use Rattle.der_actions.specs.declared.options.Options.{Options}
 use Rattle.der_input.specs.Forms.{HasNoBlock}
-use Rattle.der_cli.specs.Inputs.{ReadsBlock, ReadsBlocks, RefusesBlocks, after_none, broken_block, no_block, one_more, refused_block, without_blocks}
+use Rattle.der_cli.specs.Inputs.{FailsAtBlock, ReadsBlock, ReadsBlocks, RefusesBlock, after_none, broken_block, failed_block, no_block, one_more, without_blocks}
 use Rattle.der_cli.proofs.Refusing.{after_next, before_first, few_blocks, refuses_all}
 use Rattle.der_cli.proofs.run.act_on_blocks.Goals.{else-are_read, then-are_read}
 use Rattle.der_cli.proofs.run.act_on_blocks.Goals as goal
@@ -50,7 +50,7 @@ loop-before-preserved g c =
       refused = λ no.
           elim c.if-are_read.branch [
             | then-are_read w ↦
-                refused_block c.loop-before.before c.loop-before.rest.now _ _ _ c.loop-before.invariant.after begins
+                failed_block c.loop-before.before c.loop-before.rest.now _ _ _ c.loop-before.invariant.after begins
                 (c.in_ok-is_read-in-Ok-Some.ensures.refused (sym w.are_read-is ∙ no))
             | else-are_read w ↦ c.loop-before.invariant.refused w.if-are_read.false
           ];
@@ -68,12 +68,12 @@ loop-before-init g c = record {
 pub returns-in-Ok-None-2-clause-refused : goal.returns-in-Ok-None-2-clause-refused
 returns-in-Ok-None-2-clause-refused g c =
     let none = rw c.in-Ok-None.field-0-is at c.in-Ok-None.ensures.ok in
-    refuses_all c.refuse_file.result (RefusesBlocks c.args.options.now c.args.text.now)
+    refuses_all c.refuse_file.result (FailsAtBlock (RefusesBlock c.args.options.now) c.args.text.now)
     (without_blocks (subst HasNoBlock (before_first c.loop-before.invariant.after (omega (arith, c.if-before-gt0.false))) none))
 
 pub returns-in-Err-clause-refused : goal.returns-in-Err-clause-refused
 returns-in-Err-clause-refused g c =
-    refuses_all c.refuse_file-in-Err.result (RefusesBlocks c.args.options.now c.args.text.now) (broken_block _ _ _ c.loop-before.invariant.after c.in-Err.ensures.err)
+    refuses_all c.refuse_file-in-Err.result (FailsAtBlock (RefusesBlock c.args.options.now) c.args.text.now) (broken_block _ _ _ c.loop-before.invariant.after c.in-Err.ensures.err)
 
 pub returns-after-are_read-clause-refused : goal.returns-after-are_read-clause-refused
 returns-after-are_read-clause-refused g c =

@@ -6,7 +6,7 @@ use Rattle.der_input.specs.declared.error.FormError.TheVariants as error
 use Rattle.der_input.specs.declared.form.Form.TheVariants.{Base64, Der, Hex, Pem}
 use Rattle.der_input.specs.Faults.{IsBase64Error}
 use Rattle.der_input.specs.Plain.{characters_of, digits_of}
-use Rattle.der_cli.specs.Inputs.{ReadsBlocks, ReadsInput, RefusesBlocks, RefusesInput, blocks, octets, refused_blocks, refused_octets, without_form, without_octets}
+use Rattle.der_cli.specs.Inputs.{FailsAtBlock, ReadsBlocks, ReadsInput, RefusesBlock, RefusesInput, blocks, octets, refused_blocks, refused_octets, undecoded_input, without_form, without_octets}
 use Rattle.der_cli.specs.Outputs.{RefusesFile, WritesFile}
 use Rattle.der_actions.proofs.Printing.{then_reads, then_refuses}
 use Rattle.der_cli.proofs.Refusing.{no_octets, no_octets_after, of_digits, refuses_all}
@@ -93,7 +93,7 @@ returns-in-Ok-Pem-clause-refused g c =
     let old = g.W.Write.contents c.args.out.now in
     let new = g.W.Write.contents c.act_on_blocks.new.out in
     let form = rw c.in-Ok-Pem.field-0-is at c.in-Ok-Pem.ensures.found in
-    then_refuses c.act_on_blocks.result (RefusesBlocks o i) (RefusesInput o name i old new) (λ no. refused_blocks form no) c.act_on_blocks.ensures.refused
+    then_refuses c.act_on_blocks.result (FailsAtBlock (RefusesBlock o) i) (RefusesInput o name i old new) (λ no. refused_blocks form no) c.act_on_blocks.ensures.refused
 
 pub returns-in-Ok-Hex-clause-refused : goal.returns-in-Ok-Hex-clause-refused
 returns-in-Ok-Hex-clause-refused g c =
@@ -108,7 +108,7 @@ returns-in-Ok-Hex-clause-refused g c =
     then_refuses c.act_on_decoded.result (MatchResult r (λ v. RefusesFile o name v.items old new) (λ e. e ≢ error.OutOfMemory)) (RefusesInput o name i old new)
     (λ h.
     of_digits r (λ v. RefusesFile o name v.items old new) (λ v. spelled ≡ Ok v.items) (λ e. (e ≡ error.Hex) × IsErr spelled) (RefusesInput o name i old new) h c.decode_hex.ensures.ok c.decode_hex.ensures.err
-    (λ v spells no. refused_octets Hex v.items form spells no) (λ e failed. without_octets Hex form hex_is_no_pem (no_octets spelled failed.1)))
+    (λ v spells no. refused_octets Hex v.items form spells no) (λ e failed. undecoded_input (without_octets Hex form hex_is_no_pem (no_octets spelled failed.1))))
     c.act_on_decoded.ensures.refused
 
 pub returns-in-Ok-Base64-clause-refused : goal.returns-in-Ok-Base64-clause-refused
@@ -125,10 +125,10 @@ returns-in-Ok-Base64-clause-refused g c =
     (λ h.
     of_digits r (λ v. RefusesFile o name v.items old new) (λ v. spelled ≡ Ok v.items) (IsBase64Error i) (RefusesInput o name i old new) h c.decode_base64.ensures.ok c.decode_base64.ensures.err
     (λ v spells no. refused_octets Base64 v.items form spells no)
-    (λ e failed. without_octets Base64 form base64_is_no_pem (no_octets_after spelled failed.2.0 failed.2.1)))
+    (λ e failed. undecoded_input (without_octets Base64 form base64_is_no_pem (no_octets_after spelled failed.2.0 failed.2.1))))
     c.act_on_decoded-in-Ok-Base64.ensures.refused
 
 pub returns-in-Err-clause-refused : goal.returns-in-Err-clause-refused
 returns-in-Err-clause-refused g c =
     let none = c.in-Err.ensures.none in
-    refuses_all c.refuse_file.result (RefusesInput c.args.options.now c.args.name.now c.args.input.now _ _) (without_form _ none.0 none.1)
+    refuses_all c.refuse_file.result (RefusesInput c.args.options.now c.args.name.now c.args.input.now _ _) (undecoded_input (without_form _ none.0 none.1))
