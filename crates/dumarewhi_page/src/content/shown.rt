@@ -14,18 +14,18 @@ pub fn put_known(input: &[u8], known: &Known<'_>, present: u64, text: &mut [u8])
 {
     let mut room = Room::new(text);
     match write_at(&mut room, input, known, present) {
-        Ok(()) => room.length,
+        Ok(_) => room.length,
         Err(_) => 0,
     }
 }
 
-/// Writes the summary at this time.
+/// Writes the summary at this time. Returns what `write_known` does.
 fn write_at<W: fmt::Write>(
     out: &mut W,
     input: &[u8],
     known: &Known<'_>,
     present: u64,
-) -> fmt::Result
+) -> Result<bool, fmt::Error>
     ensures { IsOk result → (text : List ℕ) × IsShown (Some present) input.now known.now text
         × WritesInCalls W.Write.write_str_gives out.old text out.new }
 {
