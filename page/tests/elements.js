@@ -13,9 +13,13 @@ export const INDEFINITE = {
   ],
 };
 
-/** Elements with these rows, and with texts by the name of the call. `length` is null if it is indefinite. */
+/**
+ * Elements with these rows, and with texts by the name of the call. As the module does, a value is written after a space.
+ * `length` is null if it is indefinite.
+ */
 export function elementsOf({ hex, rows, texts = {}, ...others }) {
   const textOf = (name, number) => texts[name]?.[number] ?? "";
+  const spaced = (text) => text && ` ${text}`;
   return {
     octets: octetsOf(hex),
     count: rows.length,
@@ -30,8 +34,8 @@ export function elementsOf({ hex, rows, texts = {}, ...others }) {
     fieldOf: (number) => textOf("field", number),
     pathOf: (number) => textOf("path", number),
     remarkOf: (number) => textOf("remark", number),
-    lineOf: (number) => textOf("line", number),
-    valueOf: (number, isFull) => textOf(isFull ? "wholeValue" : "value", number),
+    lineOf: (number, isFull) => textOf(isFull ? "wholeLine" : "line", number),
+    valueOf: (number, isFull) => spaced(textOf(isFull ? "wholeValue" : "value", number)),
     contentOf: ({ offset, header, length }) => octetsOf(hex).subarray(offset + header, offset + header + length),
     ...others,
   };

@@ -123,13 +123,19 @@ test("a dump has the lines that it leaves out", () => {
   assert.deepEqual([long.length, long.at(-2), long.at(-1)], [0x100000 / 16 + 1, zeros, "00 00 00 00 05 00"]);
   const crlf = dumpOf(...dumps[0]).replaceAll("\n", "\r\n");
   assert.deepEqual(octetsIn(withAllLines(crlf)), whole);
+  const spaced = dumpOf("000000", "000010", "000060", "000066 ").replace("*\n", " \n* \n");
+  assert.deepEqual(octetsIn(withAllLines(spaced)), whole);
+  const reader = readerOf(FORMS.digits);
+  documentsOfFile(reader, "a file", new TextEncoder().encode(crlf));
+  assert.deepEqual(octetsIn(reader.asked.at(-1)[1]), whole, "in a file");
 });
 
 test("a dump whose offsets don't fit stays as it is", () => {
   const wrong = [
     dumpOf("000000", "000010", "000061", "000066"), dumpOf("000000", "000011", "000060", "000066"),
     dumpOf("000000", "000010", "fffffff0", "fffffff6"), dumpOf("000000", "000010", "000060", "000066").replace("*", "**"),
-    "*", "0a\n*\n0b 05",
+    "*", "0a\n*\n0b 05", dumpOf("000010", "000020", "000070", "000076"),
+    dumpOf("000000", "000010", "1000010", "1000016"),
     dumpOf("000000", "000010", "000060", "000080 05").replace("00 05 00", `00 05${" 00".repeat(11)}`),
   ];
   for (const text of wrong) assert.equal(withAllLines(text), text);

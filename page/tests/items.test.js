@@ -63,7 +63,7 @@ test("an octet leads to the innermost element that has it", () => {
   const items = itemsOf(INDEFINITE, INDEFINITE);
   const found = Array.from({ length: 15 }, (_, offset) => items.at(1, offset));
   assert.deepEqual(found, [6, 6, 7, 7, 7, 8, 8, 9, 9, 9, 8, 8, 6, 6, -1]);
-  assert.equal(itemsOf({ hex: "", rows: [] }).at(0, 0), -1);
+  assert.deepEqual([itemsOf(INDEFINITE).at(0, 14), itemsOf({ hex: "", rows: [] }).at(0, 0)], [-1, -1]);
 });
 
 test("what is inside a closed item isn't shown", () => {
@@ -72,6 +72,7 @@ test("what is inside a closed item isn't shown", () => {
   assert.equal(items.open(2, false), true);
   assert.deepEqual([...items.shown], [0, 1, 2]);
   assert.equal(items.open(2, false), false, "it is closed");
+  assert.deepEqual([true, false].map((isOpen) => items.open(2, isOpen)), [true, true]);
   assert.equal(items.open(1, false), false, "nothing is in it");
   assert.deepEqual([0, 1, 2, 3].map((item) => items.shownAt(item)), [0, 1, 2, 2]);
   assert.equal(items.reveal(3), true);
@@ -79,8 +80,12 @@ test("what is inside a closed item isn't shown", () => {
   assert.equal(items.reveal(3), false);
   items.openAll(false);
   assert.deepEqual([...items.shown], [0]);
+  assert.equal(items.reveal(3), true);
+  assert.deepEqual([...items.shown], [0, 1, 2, 3]);
+  assert.equal(items.open(2, false), true, "it was revealed");
   items.openAll(true);
   assert.deepEqual([...items.shown], [0, 1, 2, 3]);
+  assert.equal(items.open(2, false), true, "all were opened");
 });
 
 test("the text of an item has all lines inside it", () => {
@@ -88,7 +93,7 @@ test("the text of an item has all lines inside it", () => {
   assert.equal(items.textOf(-1), "a\nb\nc\nd\n");
   assert.equal(items.textOf(2), "c\nd\n");
   const named = new Items([{ name: "x", label: "L", error: "why" }, { name: "y", label: "", error: "why" }]);
-  assert.equal(named.textOf(-1), "x: L\ny:\n");
+  assert.deepEqual([named.textOf(-1), named.textOf(0)], ["x: L\ny:\n", "x: L\n"]);
   const faultOf = (rules) => `the error by ${rules}`;
   const broken = itemsOf({ ...INDEFINITE, texts: { line: ["a", "b", "c", "d"] }, outcome: refused(12, 0), faultOf });
   assert.equal(broken.textOf(-1), "a\nb\nc\nd\nthe error by 0\n");

@@ -31,7 +31,7 @@ test("base64 for links, and back", () => {
   assert.equal(linkTextOf(Uint8Array.of(0xfb, 0xff)), "-_8");
   assert.equal(linkTextOf(Uint8Array.of(0xfb, 0xef, 0xbe, 0xff, 0xff, 0xff)), "----____");
   for (const text of ["-_8", "+/8=", "-_8="]) assert.deepEqual([...octetsOfBase64(text)], [0xfb, 0xff]);
-  assert.deepEqual([...octetsOfBase64("")], []);
+  assert.deepEqual([[...octetsOfBase64("")], [...octetsOfBase64("BQ")]], [[], [5]]);
   for (const text of ["A", "AAAAA", "A*==", "A\u00e9"]) assert.equal(octetsOfBase64(text), null, text);
 });
 

@@ -100,10 +100,10 @@ test("the details of a document and of an error", () => {
   assert.deepEqual(detailsOf(items, 1, false), [["Input", "a.der"], ["Label", "A"], ["Size", "14 octets"]]);
 });
 
-/** The details of an INTEGER, whose value the module prints so. */
-function numberLines(content, value, isFull, number = 2) {
+/** The details of an INTEGER, whose value the module prints so, and whole if it is asked to. */
+function numberLines(content, whole, isFull, number = 2, value = whole) {
   const row = { ...primitive(number, content.length / 2), header: 4 };
-  const items = itemsOf({ hex: `02820000${content}`, rows: [row], texts: { value: [value], wholeValue: [value] } });
+  const items = itemsOf({ hex: `02820000${content}`, rows: [row], texts: { value: [value], wholeValue: [whole] } });
   return detailsOf(items, 0, isFull).slice(5);
 }
 
@@ -114,10 +114,13 @@ test("a number in hexadecimal and in decimal", () => {
     // python3 -c 'print(2**128)'
     assert.deepEqual(lines[0], ["Decimal", "340282366920938463463374607431768211456", "digits"]);
   }
+  assert.deepEqual(numberLines("0100", "0x0100", false, 2, "0x01...")[0], ["Decimal", "256", "digits"]);
   assert.deepEqual(numberLines("05", "5", false, 1), [], "a BOOLEAN");
   assert.equal(numberLines("7f".repeat(32), "5", false)[0][1], `${"7f".repeat(32)} (32 octets)`);
   assert.equal(numberLines("7f".repeat(33), "5", false)[0][1], `${"7f".repeat(20)}... (33 octets)`);
   assert.equal(numberLines("7f".repeat(33), "5", true)[0][1], `${"7f".repeat(33)} (33 octets)`);
+  const longest = "7f".repeat(4096);
+  assert.equal(numberLines(longest, `0x${longest}`, false)[0][0], "Decimal");
   const long = "7f".repeat(4097);
   assert.deepEqual(numberLines(long, `0x${long}`, false).map(([name]) => name), ["Hex"]);
   assert.deepEqual(numberLines(long, `0x${long}`, true).map(([name]) => name), ["Decimal", "Hex"]);
@@ -165,13 +168,14 @@ test("a time in words, and how far it is from now", () => {
 test("a day that no calendar has, and what is no time", () => {
   assert.equal(timeInWords("2023-02-29 00:00:00 UTC", 0), "no day of the calendar");
   assert.equal(timeInWords("2024-04-31 00:00:00 UTC", 0), "no day of the calendar");
+  assert.equal(timeInWords("2024-13-05 00:00:00 UTC", 0), "no day of the calendar");
   assert.notEqual(timeInWords("2024-02-29 00:00:00 UTC", 0), "no day of the calendar");
   for (const value of ["", "2024-02-29", "2024-02-29 00:00 UTC", '"text"']) assert.equal(timeInWords(value, 0), null);
 });
 
 test("a time among the details", () => {
   const of = (number, tagClass, value) => {
-    const texts = { value: [value], wholeValue: [value] };
+    const texts = { value: [`${value.slice(0, 4)}...`], wholeValue: [value] };
     const items = itemsOf({ hex: "", rows: [primitive(number, 1, { tagClass })], texts });
     return detailsOf(items, 0, false).filter(([name]) => name === "In words").length;
   };

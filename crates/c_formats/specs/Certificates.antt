@@ -1,9 +1,9 @@
 -- Certificates as C sees them.
 use Rattle.std.specs.Prelude.{◌≡◌, Some}
 use Rattle.x509.specs.declared.certificate.Certificate.{Certificate}
-use Rattle.x509.specs.declared.refusal.CertificateRefusal.{CertificateRefusal}
-use Rattle.x509.specs.declared.rules.StrictRefusal.{StrictRefusal}
-use Rattle.x509.specs.declared.rules.StrictRefusal.TheVariants.{NotRead, Broken}
+use Rattle.x509.specs.declared.error.CertificateError.{CertificateError}
+use Rattle.x509.specs.declared.rules.StrictError.{StrictError}
+use Rattle.x509.specs.declared.rules.StrictError.TheVariants.{NotRead, Broken}
 use Rattle.x509.specs.Certificates.{Signed, certificate_of}
 use Rattle.c_values.specs.declared.fault.DmFault.{DmFault}
 use Rattle.c_values.specs.Faults.{field_fault, rule_fault}
@@ -33,9 +33,9 @@ pub record HasCertificate (c : Signed) (d : DmCertificate) : Type 0 where
 abbrev pub IsCertificate : Certificate → DmCertificate → Type 0
 IsCertificate c d = HasCertificate (certificate_of c) d
 
-abbrev pub certificate_fault : CertificateRefusal → DmFault
+abbrev pub certificate_fault : CertificateError → DmFault
 certificate_fault e = field_fault (certificate_field_number e.field) e.refusal
 
-abbrev pub strict_fault : StrictRefusal → DmFault
+abbrev pub strict_fault : StrictError → DmFault
 strict_fault (NotRead e) = certificate_fault e
 strict_fault (Broken r) = rule_fault r

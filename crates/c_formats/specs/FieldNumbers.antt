@@ -1,12 +1,12 @@
 -- The numbers of fields.
 use Rattle.std.specs.Borrow.{Bor}
 use Rattle.std.specs.Prelude.{ℕ, if◌then◌else◌, List, [], ◌∷◌, bytes_eq, codes}
-use Rattle.x509.specs.declared.crl.refusal.Field.{Field as ListField}
-use Rattle.x509.specs.declared.crl.refusal.Field.TheVariants as list
-use Rattle.x509_keys.specs.declared.request.refusal.Field.{Field as RequestField}
-use Rattle.x509_keys.specs.declared.request.refusal.Field.TheVariants as request
-use Rattle.x509.specs.declared.refusal.Field.{Field}
-use Rattle.x509.specs.declared.refusal.Field.TheVariants as field
+use Rattle.x509.specs.declared.crl.error.Field.{Field as ListField}
+use Rattle.x509.specs.declared.crl.error.Field.TheVariants as list
+use Rattle.x509_keys.specs.declared.request.error.Field.{Field as RequestField}
+use Rattle.x509_keys.specs.declared.request.error.Field.TheVariants as request
+use Rattle.x509.specs.declared.error.Field.{Field}
+use Rattle.x509.specs.declared.error.Field.TheVariants as field
 
 -- of a certificate (RFC 5280 4.1)
 abbrev pub certificate_field_number : Field → ℕ

@@ -1,7 +1,7 @@
 -- Private keys as C sees them.
 use Rattle.std.specs.Prelude.{◌≡◌, is_some, []}
 use Rattle.std.specs.Option.{option_map, unwrap_or}
-use Rattle.der_cursor.specs.declared.named.FieldRefusal.{FieldRefusal}
+use Rattle.der_cursor.specs.declared.named.FieldError.{FieldError}
 use Rattle.der_cursor.specs.Cursors.{octets_left}
 use Rattle.der_cursor.specs.Elements.{element_of}
 use Rattle.der_cursor.specs.Named.{names_of}
@@ -33,7 +33,7 @@ pub record HasKey (k : PrivateKeyInfo) (d : DmPrivateKey) : Type 0 where
 abbrev pub IsKey : PrivateKeyInfo → DmPrivateKey → Type 0
 IsKey k d = HasKey k d
 
-abbrev pub key_fault : FieldRefusal → DmFault
+abbrev pub key_fault : FieldError → DmFault
 key_fault e = field_fault (key_field_number (only_name (names_of e))) e.refusal
 
 -- the numbers are those of the key (RFC 8017 A.1.2)
@@ -53,5 +53,5 @@ pub record HasRsaKey (k : RsaPrivateKey) (d : DmRsaPrivateKey) : Type 0 where
 abbrev pub IsRsaKey : RsaPrivateKey → DmRsaPrivateKey → Type 0
 IsRsaKey k d = HasRsaKey k d
 
-abbrev pub rsa_fault : FieldRefusal → DmFault
+abbrev pub rsa_fault : FieldError → DmFault
 rsa_fault e = field_fault (rsa_field_number (only_name (names_of e))) e.refusal

@@ -1,7 +1,7 @@
 -- Keys beside those of PKCS #8, as C sees them.
 use Rattle.std.specs.Prelude.{◌≡◌, Some, is_some}
 use Rattle.std.specs.Option.{option_map}
-use Rattle.der_cursor.specs.declared.named.FieldRefusal.{FieldRefusal}
+use Rattle.der_cursor.specs.declared.named.FieldError.{FieldError}
 use Rattle.der_cursor.specs.Elements.{element_of}
 use Rattle.der_cursor.specs.Named.{names_of}
 use Rattle.der_values.specs.Kinds.{borrowed_octets}
@@ -33,7 +33,7 @@ pub record HasEcKey (k : EcPrivateKey) (d : DmEcPrivateKey) : Type 0 where
 abbrev pub IsEcKey : EcPrivateKey → DmEcPrivateKey → Type 0
 IsEcKey k d = HasEcKey k d
 
-abbrev pub ec_fault : FieldRefusal → DmFault
+abbrev pub ec_fault : FieldError → DmFault
 ec_fault e = field_fault (ec_field_number (only_name (names_of e))) e.refusal
 
 -- of the encrypted key (RFC 5958 3)
@@ -47,7 +47,7 @@ pub record HasEncryptedKey (k : EncryptedPrivateKeyInfo) (d : DmEncryptedPrivate
 abbrev pub IsEncryptedKey : EncryptedPrivateKeyInfo → DmEncryptedPrivateKey → Type 0
 IsEncryptedKey k d = HasEncryptedKey k d
 
-abbrev pub encrypted_fault : FieldRefusal → DmFault
+abbrev pub encrypted_fault : FieldError → DmFault
 encrypted_fault e = field_fault (encrypted_field_number (only_name (names_of e))) e.refusal
 
 -- of the public key (RFC 5280 4.1.2.7)
@@ -61,7 +61,7 @@ pub record HasPublicKey (k : SubjectPublicKeyInfo) (d : DmPublicKey) : Type 0 wh
 abbrev pub IsPublicKey : SubjectPublicKeyInfo → DmPublicKey → Type 0
 IsPublicKey k d = HasPublicKey k d
 
-abbrev pub public_fault : FieldRefusal → DmFault
+abbrev pub public_fault : FieldError → DmFault
 public_fault e = field_fault (public_field_number (only_name (names_of e))) e.refusal
 
 -- of the key of RSA (RFC 8017 A.1.1)
@@ -72,5 +72,5 @@ pub record HasRsaPublicKey (k : RsaPublicKey) (d : DmRsaPublicKey) : Type 0 wher
 abbrev pub IsRsaPublicKey : RsaPublicKey → DmRsaPublicKey → Type 0
 IsRsaPublicKey k d = HasRsaPublicKey k d
 
-abbrev pub rsa_public_fault : FieldRefusal → DmFault
+abbrev pub rsa_public_fault : FieldError → DmFault
 rsa_public_fault e = field_fault (rsa_public_field_number (only_name (names_of e))) e.refusal

@@ -1,7 +1,7 @@
 -- Certification requests as C sees them.
 use Rattle.std.specs.Prelude.{◌≡◌, Some}
 use Rattle.x509_keys.specs.declared.request.attribute.Attribute.{Attribute}
-use Rattle.x509_keys.specs.declared.request.refusal.RequestRefusal.{RequestRefusal}
+use Rattle.x509_keys.specs.declared.request.error.CertificationRequestError.{CertificationRequestError}
 use Rattle.x509_keys.specs.declared.request.CertificationRequest.{CertificationRequest}
 use Rattle.x509_keys.specs.Request.Requests.{Attribute as AttributeValue, Signed, attribute_of, request_of}
 use Rattle.x509.specs.declared.extension.Extensions.{Extensions}
@@ -26,7 +26,7 @@ pub record HasRequest (c : Signed) (d : DmRequest) : Type 0 where
 abbrev pub IsRequest : CertificationRequest → DmRequest → Type 0
 IsRequest r d = HasRequest (request_of r) d
 
-abbrev pub request_fault : RequestRefusal → DmFault
+abbrev pub request_fault : CertificationRequestError → DmFault
 request_fault e = field_fault (request_field_number e.field) e.refusal
 
 -- the fields are those of the attribute

@@ -4,7 +4,7 @@ use Rattle.std.specs.Option.{unwrap_or}
 use Rattle.x509.specs.declared.crl.entry.RevokedCertificate.{RevokedCertificate}
 use Rattle.x509.specs.declared.crl.list.CertificateList.{CertificateList}
 use Rattle.x509.specs.declared.crl.reason.Reason.{Reason}
-use Rattle.x509.specs.declared.crl.refusal.ListRefusal.{ListRefusal}
+use Rattle.x509.specs.declared.crl.error.CertificateListError.{CertificateListError}
 use Rattle.x509.specs.Crl.Lists.{Revoked, Signed, certificate_list_of, revoked_of}
 use Rattle.x509.specs.Crl.Reasons.{number_of}
 use Rattle.der_extensions.specs.declared.issuing_distribution_point.IssuingDistributionPoint as issuing
@@ -37,7 +37,7 @@ pub record HasList (c : Signed) (d : DmCertificateList) : Type 0 where
 abbrev pub IsList : CertificateList → DmCertificateList → Type 0
 IsList l d = HasList (certificate_list_of l) d
 
-abbrev pub list_fault : ListRefusal → DmFault
+abbrev pub list_fault : CertificateListError → DmFault
 list_fault e = field_fault (list_field_number e.field) e.refusal
 
 -- the fields are those of the entry (5.1.2.6)

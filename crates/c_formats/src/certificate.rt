@@ -9,7 +9,7 @@ use c_values::fault::{DmFault, field_fault, no_fault, rule_fault};
 use c_values::parts::{
     DmAlgorithm, DmBits, DmMoment, algorithm, bits, moment, optional_bits, version_number,
 };
-use x509::{Certificate, CertificateRefusal, Field, StrictRefusal};
+use x509::{Certificate, CertificateError, Field, StrictError};
 
 /// A certificate. Octets are slices of the input.
 #[repr(C)]
@@ -51,7 +51,7 @@ pub struct DmCertificate<'a> {
 
 /// Writes a certificate or its fault. Returns the fault.
 pub fn write<'a>(
-    found: Result<Certificate<'a>, CertificateRefusal>,
+    found: Result<Certificate<'a>, CertificateError>,
     certificate: &mut DmCertificate<'a>,
 ) -> DmFault
     ensures { Written IsCertificate certificate_fault found.entry certificate.old certificate.new result }
@@ -67,7 +67,7 @@ pub fn write<'a>(
 
 /// The same for a certificate that keeps all rules.
 pub fn write_strict<'a>(
-    found: Result<Certificate<'a>, StrictRefusal>,
+    found: Result<Certificate<'a>, StrictError>,
     certificate: &mut DmCertificate<'a>,
 ) -> DmFault
     ensures { Written IsCertificate strict_fault found.entry certificate.old certificate.new result }
@@ -77,8 +77,8 @@ pub fn write_strict<'a>(
             *certificate = fields(&found);
             no_fault()
         }
-        Err(StrictRefusal::NotRead(e)) => certificate_fault(e),
-        Err(StrictRefusal::Broken(rule)) => rule_fault(rule),
+        Err(StrictError::NotRead(e)) => certificate_fault(e),
+        Err(StrictError::Broken(rule)) => rule_fault(rule),
     }
 }
 
@@ -108,7 +108,7 @@ fn fields<'a>(found: &Certificate<'a>) -> DmCertificate<'a>
 }
 
 /// The fault of a field of a certificate.
-pub fn certificate_fault(e: CertificateRefusal) -> DmFault
+pub fn certificate_fault(e: CertificateError) -> DmFault
     ensures { result ≡ certificate_fault e }
 {
     field_fault(field_number(e.field), e.refusal)

@@ -10,7 +10,7 @@ ghost use Rattle.der_extensions.specs.Lists.{list_octets};
 use c_values::element::bit;
 use c_values::fault::{DmFault, field_fault, no_fault};
 use der_base::error::BerError;
-use der_cursor::Refusal;
+use der_cursor::ReadError;
 use der_extensions::{AuthorityKeyIdentifier, BasicConstraints, GeneralNames, KeyUsage};
 
 /// The value of a BasicConstraints (4.2.1.9).
@@ -44,7 +44,7 @@ pub struct DmAuthorityKeyIdentifier<'a> {
 }
 
 /// The fault of a value.
-pub fn value_fault(e: Refusal<BerError>) -> DmFault
+pub fn value_fault(e: ReadError<BerError>) -> DmFault
     ensures { result ≡ value_fault e }
 {
     field_fault(0, e)
@@ -52,7 +52,7 @@ pub fn value_fault(e: Refusal<BerError>) -> DmFault
 
 /// Writes a BasicConstraints, or returns the fault.
 pub fn write_constraints(
-    found: Result<BasicConstraints, Refusal<BerError>>,
+    found: Result<BasicConstraints, ReadError<BerError>>,
     constraints: &mut DmBasicConstraints,
 ) -> DmFault
     ensures { Written IsConstraints value_fault found constraints.old constraints.new result }
@@ -77,7 +77,7 @@ fn constraints_fields(found: BasicConstraints) -> DmBasicConstraints
 }
 
 /// Writes a KeyUsage, or returns the fault.
-pub fn write_usage(found: Result<KeyUsage<'_>, Refusal<BerError>>, usage: &mut u32) -> DmFault
+pub fn write_usage(found: Result<KeyUsage<'_>, ReadError<BerError>>, usage: &mut u32) -> DmFault
     ensures { Written IsUsage value_fault found.entry usage.old usage.new result }
 {
     match found {
@@ -113,7 +113,7 @@ fn flag(is_set: bool, value: u32) -> u32
 
 /// Writes an AuthorityKeyIdentifier, or returns the fault.
 pub fn write_authority<'a>(
-    found: Result<AuthorityKeyIdentifier<'a>, Refusal<BerError>>,
+    found: Result<AuthorityKeyIdentifier<'a>, ReadError<BerError>>,
     identifier: &mut DmAuthorityKeyIdentifier<'a>,
 ) -> DmFault
     ensures { Written IsAuthority value_fault found.entry identifier.old identifier.new result }

@@ -10,7 +10,7 @@ use c_values::any::{DmAny, optional_any};
 use c_values::element::bit;
 use c_values::fault::{DmFault, FIRST_KEY_FIELD, FIRST_RSA_FIELD, field_fault, no_fault};
 use c_values::parts::{DmBits, identifier_octets, optional_bits};
-use der_cursor::{Cursor, FieldRefusal};
+use der_cursor::{Cursor, FieldError};
 use x509_keys::{PrivateKeyInfo, RsaPrivateKey};
 
 /// A private key. Octets are slices of the input.
@@ -59,7 +59,7 @@ pub struct DmRsaPrivateKey<'a> {
 
 /// Writes a private key, or returns the fault.
 pub fn write<'a>(
-    found: Result<PrivateKeyInfo<'a>, FieldRefusal>,
+    found: Result<PrivateKeyInfo<'a>, FieldError>,
     key: &mut DmPrivateKey<'a>,
 ) -> DmFault
     ensures { Written IsKey key_fault found.entry key.old key.new result }
@@ -101,7 +101,7 @@ fn octets_left<'a>(cursor: Option<Cursor<'a>>) -> &'a [u8]
 }
 
 /// The fault of a field of a key.
-pub fn key_fault(e: FieldRefusal) -> DmFault
+pub fn key_fault(e: FieldError) -> DmFault
     ensures { result ≡ key_fault e }
 {
     let field = key_field_number(only_name(e.names()));
@@ -139,7 +139,7 @@ fn key_field_number(name: &str) -> u32
 
 /// Writes an RSA private key, or returns the fault.
 pub fn write_rsa<'a>(
-    found: Result<RsaPrivateKey<'a>, FieldRefusal>,
+    found: Result<RsaPrivateKey<'a>, FieldError>,
     key: &mut DmRsaPrivateKey<'a>,
 ) -> DmFault
     ensures { Written IsRsaKey rsa_fault found.entry key.old key.new result }
@@ -173,7 +173,7 @@ fn rsa_fields<'a>(found: &RsaPrivateKey<'a>) -> DmRsaPrivateKey<'a>
 }
 
 /// The fault of a field of an RSA private key.
-pub fn rsa_fault(e: FieldRefusal) -> DmFault
+pub fn rsa_fault(e: FieldError) -> DmFault
     ensures { result ≡ rsa_fault e }
 {
     let field = rsa_field_number(only_name(e.names()));

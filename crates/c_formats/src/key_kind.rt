@@ -14,7 +14,7 @@ use c_values::any::{DmAny, optional_any};
 use c_values::parts::{DmAlgorithm, DmBits};
 use der_base::any::Any;
 use der_base::error::BerError;
-use der_cursor::{Cursor, Refusal};
+use der_cursor::{Cursor, ReadError};
 use extension_text::names::serial::without_leading_zero;
 use x509_keys::read_rsa_public_key;
 
@@ -231,7 +231,7 @@ fn first_integer(octets: &[u8]) -> Option<&[u8]>
     }
 }
 
-fn read_first(octets: &[u8]) -> Result<&[u8], Refusal<BerError>>
+fn read_first(octets: &[u8]) -> Result<&[u8], ReadError<BerError>>
     ensures { ReadsWhole (FirstInteger Rules.Der octets.now) (λ number. (number.now, tt)) Never result }
 {
     let mut fields = Cursor::new(octets);
@@ -248,7 +248,7 @@ fn only_element(octets: &[u8]) -> Option<Any<'_>>
     }
 }
 
-fn read_element(octets: &[u8]) -> Result<Any<'_>, Refusal<BerError>>
+fn read_element(octets: &[u8]) -> Result<Any<'_>, ReadError<BerError>>
     ensures { ReadsWhole (Only AnyElement Rules.Der octets.now) element_of Never result }
 {
     let mut input = Cursor::new(octets);

@@ -16,7 +16,7 @@ use c_values::fault::{
     field_fault, no_fault,
 };
 use c_values::parts::{DmBits, bits, identifier_octets, optional_bits};
-use der_cursor::FieldRefusal;
+use der_cursor::FieldError;
 use x509_keys::{EcPrivateKey, EncryptedPrivateKeyInfo, RsaPublicKey, SubjectPublicKeyInfo};
 
 /// An elliptic private key. Octets are slices of the input.
@@ -77,7 +77,7 @@ pub struct DmRsaPublicKey<'a> {
 
 /// Writes an elliptic private key, or returns the fault.
 pub fn write_ec<'a>(
-    found: Result<EcPrivateKey<'a>, FieldRefusal>,
+    found: Result<EcPrivateKey<'a>, FieldError>,
     key: &mut DmEcPrivateKey<'a>,
 ) -> DmFault
     ensures { Written IsEcKey ec_fault found.entry key.old key.new result }
@@ -105,7 +105,7 @@ fn ec_fields<'a>(found: &EcPrivateKey<'a>) -> DmEcPrivateKey<'a>
 }
 
 /// The fault of a field of an elliptic private key.
-pub fn ec_fault(e: FieldRefusal) -> DmFault
+pub fn ec_fault(e: FieldError) -> DmFault
     ensures { result ≡ ec_fault e }
 {
     let field = ec_field_number(only_name(e.names()));
@@ -131,7 +131,7 @@ fn ec_field_number(name: &str) -> u32
 
 /// Writes an encrypted private key, or returns the fault.
 pub fn write_encrypted<'a>(
-    found: Result<EncryptedPrivateKeyInfo<'a>, FieldRefusal>,
+    found: Result<EncryptedPrivateKeyInfo<'a>, FieldError>,
     key: &mut DmEncryptedPrivateKey<'a>,
 ) -> DmFault
     ensures { Written IsEncryptedKey encrypted_fault found.entry key.old key.new result }
@@ -159,7 +159,7 @@ fn encrypted_fields<'a>(found: &EncryptedPrivateKeyInfo<'a>) -> DmEncryptedPriva
 }
 
 /// The fault of a field of an encrypted private key.
-pub fn encrypted_fault(e: FieldRefusal) -> DmFault
+pub fn encrypted_fault(e: FieldError) -> DmFault
     ensures { result ≡ encrypted_fault e }
 {
     let field = encrypted_field_number(only_name(e.names()));
@@ -181,7 +181,7 @@ fn encrypted_field_number(name: &str) -> u32
 
 /// Writes a public key, or returns the fault.
 pub fn write_public<'a>(
-    found: Result<SubjectPublicKeyInfo<'a>, FieldRefusal>,
+    found: Result<SubjectPublicKeyInfo<'a>, FieldError>,
     key: &mut DmPublicKey<'a>,
 ) -> DmFault
     ensures { Written IsPublicKey public_fault found.entry key.old key.new result }
@@ -209,7 +209,7 @@ fn public_fields<'a>(found: &SubjectPublicKeyInfo<'a>) -> DmPublicKey<'a>
 }
 
 /// The fault of a field of a public key.
-pub fn public_fault(e: FieldRefusal) -> DmFault
+pub fn public_fault(e: FieldError) -> DmFault
     ensures { result ≡ public_fault e }
 {
     let field = public_field_number(only_name(e.names()));
@@ -231,7 +231,7 @@ fn public_field_number(name: &str) -> u32
 
 /// Writes an RSA public key, or returns the fault.
 pub fn write_rsa_public<'a>(
-    found: Result<RsaPublicKey<'a>, FieldRefusal>,
+    found: Result<RsaPublicKey<'a>, FieldError>,
     key: &mut DmRsaPublicKey<'a>,
 ) -> DmFault
     ensures { Written IsRsaPublicKey rsa_public_fault found.entry key.old key.new result }
@@ -256,7 +256,7 @@ fn rsa_public_fields<'a>(found: &RsaPublicKey<'a>) -> DmRsaPublicKey<'a>
 }
 
 /// The fault of a field of an RSA public key.
-pub fn rsa_public_fault(e: FieldRefusal) -> DmFault
+pub fn rsa_public_fault(e: FieldError) -> DmFault
     ensures { result ≡ rsa_public_fault e }
 {
     let field = rsa_public_field_number(only_name(e.names()));

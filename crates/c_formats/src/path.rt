@@ -9,7 +9,7 @@ use c_values::element::bit;
 use c_values::fault::{DmFault, field_fault, no_fault};
 use c_values::parts::identifier_octets;
 use der_base::error::BerError;
-use der_cursor::Refusal;
+use der_cursor::ReadError;
 use der_extensions::{PolicyConstraints, PolicyMapping};
 
 /// A policy of the issuer and the subject's equivalent policy (RFC 5280 4.2.1.5). Octets are slices of the value.
@@ -62,7 +62,7 @@ fn mapping_fields<'a>(found: PolicyMapping<'a>) -> DmPolicyMapping<'a>
 
 /// Writes a PolicyConstraints, or returns the fault.
 pub fn write_constraints(
-    found: Result<PolicyConstraints, Refusal<BerError>>,
+    found: Result<PolicyConstraints, ReadError<BerError>>,
     constraints: &mut DmPolicyConstraints,
 ) -> DmFault
     ensures { Written IsPathConstraints value_fault found constraints.old constraints.new result }

@@ -12,9 +12,11 @@ use c_values::fault::{DmFault, FIRST_REQUEST_FIELD, field_fault, no_fault};
 use c_values::octets::DmOctets;
 use c_values::parts::{DmAlgorithm, DmBits, algorithm, bits, identifier_octets};
 use der_base::error::BerError;
-use der_cursor::Refusal;
+use der_cursor::ReadError;
 use x509::Extensions;
-use x509_keys::request::{Attribute, Attributes, CertificationRequest, Field, RequestRefusal};
+use x509_keys::request::{
+    Attribute, Attributes, CertificationRequest, CertificationRequestError, Field,
+};
 
 /// A certification request (CSR). Octets are slices of the input.
 #[repr(C)]
@@ -48,7 +50,7 @@ pub struct DmRequestAttribute<'a> {
 
 /// Writes a CSR, or returns the fault.
 pub fn write<'a>(
-    found: Result<CertificationRequest<'a>, RequestRefusal>,
+    found: Result<CertificationRequest<'a>, CertificationRequestError>,
     request: &mut DmRequest<'a>,
 ) -> DmFault
     ensures { Written IsRequest request_fault found.entry request.old request.new result }
@@ -120,7 +122,7 @@ pub fn next_attribute<'a>(attributes: &mut DmOctets<'a>) -> Option<Attribute<'a>
 
 /// Writes requested extensions, or returns the fault.
 pub fn write_extensions<'a>(
-    found: Result<Extensions<'a>, Refusal<BerError>>,
+    found: Result<Extensions<'a>, ReadError<BerError>>,
     extensions: &mut DmOctets<'a>,
 ) -> DmFault
     ensures { Written IsExtensions value_fault found.entry extensions.old extensions.new result }

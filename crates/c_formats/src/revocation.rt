@@ -11,7 +11,7 @@ use c_values::parts::{DmBits, optional_bits};
 use c_values::time::{DmTime, time_fields};
 use der_base::error::BerError;
 use der_base::time::ASN1DateTime;
-use der_cursor::Refusal;
+use der_cursor::ReadError;
 use der_extensions::IssuingDistributionPoint;
 
 /// The scope of a CRL (RFC 5280 5.2.5). Octets are slices of the value. At least one of the two names is empty.
@@ -36,7 +36,7 @@ pub struct DmIssuingDistributionPoint<'a> {
 
 /// Writes an IssuingDistributionPoint, or returns the fault.
 pub fn write_point<'a>(
-    found: Result<IssuingDistributionPoint<'a>, Refusal<BerError>>,
+    found: Result<IssuingDistributionPoint<'a>, ReadError<BerError>>,
     point: &mut DmIssuingDistributionPoint<'a>,
 ) -> DmFault
     ensures { Written IsIssuingPoint value_fault found.entry point.old point.new result }
@@ -67,7 +67,7 @@ fn point_fields<'a>(found: IssuingDistributionPoint<'a>) -> DmIssuingDistributio
 }
 
 /// Writes an InvalidityDate, or returns the fault.
-pub fn write_date(found: Result<ASN1DateTime, Refusal<BerError>>, date: &mut DmTime) -> DmFault
+pub fn write_date(found: Result<ASN1DateTime, ReadError<BerError>>, date: &mut DmTime) -> DmFault
     ensures { Written IsTime value_fault found date.old date.new result }
 {
     match found {

@@ -16,9 +16,9 @@ use c_values::parts::{
     DmAlgorithm, DmBits, DmMoment, algorithm, bits, moment, optional_moment, version_number,
 };
 use der_base::error::BerError;
-use der_cursor::Refusal;
+use der_cursor::ReadError;
 use x509::crl::{
-    CertificateList, Field, ListRefusal, Reason, RevokedCertificate, RevokedCertificates,
+    CertificateList, CertificateListError, Field, Reason, RevokedCertificate, RevokedCertificates,
 };
 
 /// A CRL. Octets are slices of the input.
@@ -65,7 +65,7 @@ pub struct DmRevoked<'a> {
 
 /// Writes a CRL, or returns the fault.
 pub fn write<'a>(
-    found: Result<CertificateList<'a>, ListRefusal>,
+    found: Result<CertificateList<'a>, CertificateListError>,
     list: &mut DmCertificateList<'a>,
 ) -> DmFault
     ensures { Written IsList list_fault found.entry list.old list.new result }
@@ -80,7 +80,7 @@ pub fn write<'a>(
 }
 
 /// The fault of a CRL.
-pub fn list_fault(e: ListRefusal) -> DmFault
+pub fn list_fault(e: CertificateListError) -> DmFault
     ensures { result ≡ list_fault e }
 {
     field_fault(field_number(e.field), e.refusal)
@@ -124,7 +124,7 @@ fn field_number(field: Field) -> u32
 }
 
 /// Writes the number of a CRLReason, or returns the fault.
-pub fn write_reason(found: Result<Reason, Refusal<BerError>>, reason: &mut u32) -> DmFault
+pub fn write_reason(found: Result<Reason, ReadError<BerError>>, reason: &mut u32) -> DmFault
     ensures { Written IsReason value_fault found reason.old reason.new result }
 {
     match found {

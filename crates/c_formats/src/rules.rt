@@ -16,8 +16,8 @@ use arrayvec::ArrayString;
 use c_values::error_text::LONGEST;
 use c_values::fault::{DmFault, no_fault};
 use std::fmt::Write;
-use x509::crl::{CertificateList, ListRefusal};
-use x509::{Certificate, CertificateRefusal};
+use x509::crl::{CertificateList, CertificateListError};
+use x509::{Certificate, CertificateError};
 use x509_rules::crl::{
     ListRule, MUST_LIST_RULES, SHOULD_LIST_RULES, examine_list, examined_list_breaks,
 };
@@ -37,7 +37,7 @@ const SHOULD: u32 = 2;
 
 /// Writes the numbers of the rules that a certificate breaks, and how many there are, or returns the fault.
 pub fn write_broken(
-    found: Result<Certificate<'_>, CertificateRefusal>,
+    found: Result<Certificate<'_>, CertificateError>,
     numbers: &mut [u32],
     count: &mut usize,
 ) -> DmFault
@@ -55,7 +55,7 @@ pub fn write_broken(
 
 /// Writes the numbers of the rules that a CRL breaks, and how many there are, or returns the fault.
 pub fn write_broken_of_list(
-    found: Result<CertificateList<'_>, ListRefusal>,
+    found: Result<CertificateList<'_>, CertificateListError>,
     numbers: &mut [u32],
     count: &mut usize,
 ) -> DmFault

@@ -8,7 +8,7 @@ use crate::lists::list_or_none;
 use c_values::element::bit;
 use c_values::fault::{DmFault, field_fault, no_fault};
 use der_base::error::BerError;
-use der_cursor::Refusal;
+use der_cursor::ReadError;
 use der_extensions::{GeneralSubtree, NameConstraints};
 
 /// The value of a NameConstraints. Octets are slices of the value.
@@ -39,7 +39,7 @@ pub struct DmSubtree<'a> {
 
 /// Writes a NameConstraints, or returns the fault.
 pub fn write_constraints<'a>(
-    found: Result<NameConstraints<'a>, Refusal<BerError>>,
+    found: Result<NameConstraints<'a>, ReadError<BerError>>,
     constraints: &mut DmNameConstraints<'a>,
 ) -> DmFault
     ensures { Written IsNameConstraints value_fault found.entry constraints.old constraints.new result }

@@ -9,7 +9,7 @@ use c_values::octets::DmOctets;
 use der_base::error::BerError;
 use der_base::header::Tag;
 use der_base::text::is_text_type;
-use der_cursor::{Cursor, Refusal};
+use der_cursor::{Cursor, ReadError};
 
 /// Reads the next element as a text of the string type with this tag number, and writes its octets. Returns the fault.
 pub fn next_text<'a>(cursor: &mut DmCursor<'a>, number: u32, text: &mut DmOctets<'a>) -> DmFault
@@ -21,7 +21,7 @@ pub fn next_text<'a>(cursor: &mut DmCursor<'a>, number: u32, text: &mut DmOctets
 }
 
 /// Reads a text of this type. BerTypeError if it is no string type that is kept as a text.
-fn read_text<'a>(fields: &mut Cursor<'a>, tag: Tag) -> Result<&'a str, Refusal<BerError>>
+fn read_text<'a>(fields: &mut Cursor<'a>, tag: Tag) -> Result<&'a str, ReadError<BerError>>
     ensures { ReadsText tag.0 fields.old result fields.new }
 {
     if is_text_type(tag) {
@@ -32,7 +32,9 @@ fn read_text<'a>(fields: &mut Cursor<'a>, tag: Tag) -> Result<&'a str, Refusal<B
 }
 
 /// The octets of a text.
-fn octets_of<'a>(found: Result<&'a str, Refusal<BerError>>) -> Result<&'a [u8], Refusal<BerError>>
+fn octets_of<'a>(
+    found: Result<&'a str, ReadError<BerError>>,
+) -> Result<&'a [u8], ReadError<BerError>>
     ensures { HasSameOctets found.entry result }
 {
     match found {

@@ -17,7 +17,7 @@ use c_values::fault::{DmFault, field_fault, no_fault};
 use c_values::octets::DmOctets;
 use c_values::parts::identifier_octets;
 use der_base::error::BerError;
-use der_cursor::Refusal;
+use der_cursor::ReadError;
 use der_extensions::{
     OrganizationIdentifier, QcStatement, SignedCertificateTimestamps, TlsFeature,
 };
@@ -56,7 +56,7 @@ pub struct DmOrganizationIdentifier<'a> {
 
 /// Writes an SCT list, or returns the fault.
 pub fn write_timestamps<'a>(
-    found: Result<SignedCertificateTimestamps<'a>, Refusal<BerError>>,
+    found: Result<SignedCertificateTimestamps<'a>, ReadError<BerError>>,
     timestamps: &mut DmOctets<'a>,
 ) -> DmFault
     ensures { Written IsTimestamps value_fault found.entry timestamps.old timestamps.new result }
@@ -112,7 +112,7 @@ fn behind<'a>(timestamps: &'a [u8], count: usize) -> &'a [u8]
 }
 
 /// The fault of a value that must be NULL.
-pub fn null_fault(found: Result<(), Refusal<BerError>>) -> DmFault
+pub fn null_fault(found: Result<(), ReadError<BerError>>) -> DmFault
     ensures { Written IsNull value_fault found tt tt result }
 {
     match found {
@@ -161,7 +161,7 @@ fn statement_fields<'a>(found: QcStatement<'a>) -> DmQcStatement<'a>
 
 /// Writes a cabfOrganizationIdentifier, or returns the fault.
 pub fn write_organization<'a>(
-    found: Result<OrganizationIdentifier<'a>, Refusal<BerError>>,
+    found: Result<OrganizationIdentifier<'a>, ReadError<BerError>>,
     identifier: &mut DmOrganizationIdentifier<'a>,
 ) -> DmFault
     ensures { Written IsOrganization value_fault found.entry identifier.old identifier.new result }

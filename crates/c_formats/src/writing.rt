@@ -7,12 +7,12 @@ ghost use Rattle.c_values.specs.Faults.{Written, value_fault};
 use c_values::fault::{DmFault, field_fault, no_fault};
 use c_values::octets::DmOctets;
 use der_base::error::BerError;
-use der_cursor::Refusal;
+use der_cursor::ReadError;
 use der_extensions::SequenceOf;
 
 /// Writes the octets of a list, or returns the fault.
 pub fn write_list<'a, T: Drop>(
-    found: Result<SequenceOf<'a, T>, Refusal<BerError>>,
+    found: Result<SequenceOf<'a, T>, ReadError<BerError>>,
     list: &mut DmOctets<'a>,
 ) -> DmFault
     ensures { Written HasItems value_fault found.entry list.old list.new result }
@@ -27,7 +27,7 @@ pub fn write_list<'a, T: Drop>(
 }
 
 /// Writes a value as it is, or returns the fault.
-pub fn write_value<V: Copy>(found: Result<V, Refusal<BerError>>, value: &mut V) -> DmFault
+pub fn write_value<V: Copy>(found: Result<V, ReadError<BerError>>, value: &mut V) -> DmFault
     ensures { Written IsSame value_fault found value.old value.new result }
 {
     match found {
@@ -41,7 +41,7 @@ pub fn write_value<V: Copy>(found: Result<V, Refusal<BerError>>, value: &mut V) 
 
 /// Writes octets, or returns the fault.
 pub fn write_octets<'a>(
-    found: Result<&'a [u8], Refusal<BerError>>,
+    found: Result<&'a [u8], ReadError<BerError>>,
     octets: &mut DmOctets<'a>,
 ) -> DmFault
     ensures { Written IsOctets value_fault found.entry octets.old octets.new result }

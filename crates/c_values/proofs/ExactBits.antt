@@ -10,7 +10,7 @@ use Rattle.der_base.proofs.Answers.Answering.{passed_on}
 use Rattle.der_base.proofs.Answers.Exactness.{exactly}
 use Rattle.der_base.proofs.Leaves.Refusals.{none_of_both, refused_behind, refused_in_front}
 use Rattle.der_cursor.specs.declared.cursor.Cursor.{Cursor}
-use Rattle.der_cursor.specs.declared.refusal.Refusal.{Refusal}
+use Rattle.der_cursor.specs.declared.error.ReadError.{ReadError}
 use Rattle.der_cursor.specs.Cursors.{ReadsValue, RefusesAt, SpellsValue, ValueRefuses, list_end_of, octets_left, place_of}
 use Rattle.der_cursor.proofs.CursorLaws.{shows_one_at}
 use Rattle.der_cursor.proofs.KindLaws.{bits_one}
@@ -43,7 +43,7 @@ module _ (r : Rules) (old : Cursor) where
       → ValueRefuses value_of (exact_bit_strings r) 3 old e
   refused_then b i e f (w, n, m, s) = inr ((w, i), s, refused_behind (leaf_tests r 3 w) (unused_bits_tests w) e n (subst (λ v. IsFirstRefusal (unused_bits_tests v) e) (sym m) f))
 
-  pub exact_bits : (found result : Result BitString (Refusal BerError)) (new : Cursor) → place_of old ≡ 0 → list_end_of old ≡ None → ReadsValue value_of (bit_strings r) 3 old found new
+  pub exact_bits : (found result : Result BitString (ReadError BerError)) (new : Cursor) → place_of old ≡ 0 → list_end_of old ≡ None → ReadsValue value_of (bit_strings r) 3 old found new
       → TestsUnusedBits found result → ReadsValue value_of (exact_bit_strings r) 3 old result (left_at result old new)
   exact_bits (Err e) result new p l h t = rw t (record {
     value_read = exactly (Err e.reason) (shows_one_at old (value_shows_one value_of (exact_bit_strings r) 3 (bits_one r) old)) (λ n k m. m)
@@ -61,7 +61,7 @@ module _ (r : Rules) (old : Cursor) where
   })
 
 -- a call in C stays after a refusal, wherever the cursor is
-pub finishes_there : {T V : Type 0} (Is : T → V → Type 0) (d : DmCursor) (old new : Cursor) (found : Result T (Refusal BerError)) (d' : DmCursor) (v v' : V) (f : DmFault)
+pub finishes_there : {T V : Type 0} (Is : T → V → Type 0) (d : DmCursor) (old new : Cursor) (found : Result T (ReadError BerError)) (d' : DmCursor) (v v' : V) (f : DmFault)
     → Finishes Is d new found d' v v' f → Finishes Is d (left_at found old new) found d' v v' f
 finishes_there Is d old new (Ok x) d' v v' f h = h
 finishes_there Is d old new (Err e) d' v v' f h = h

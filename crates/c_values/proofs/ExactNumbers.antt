@@ -13,7 +13,7 @@ use Rattle.der_base.proofs.Answers.Answering.{passed_on}
 use Rattle.der_base.proofs.Answers.Exactness.{exactly}
 use Rattle.der_base.proofs.Leaves.Refusals.{refused_in_front}
 use Rattle.der_cursor.specs.declared.cursor.Cursor.{Cursor}
-use Rattle.der_cursor.specs.declared.refusal.Refusal.{Refusal}
+use Rattle.der_cursor.specs.declared.error.ReadError.{ReadError}
 use Rattle.der_cursor.specs.Cursors.{IsTagged, ReadsValue, RefusesAt, ValueRefuses, class_wanted, end_of, list_end, list_end_of, number_wanted, octets_left, place_of, rules_of}
 use Rattle.der_cursor.specs.Elements.{SpellsElement}
 use Rattle.der_cursor.proofs.CursorLaws.{shows_one_at}
@@ -41,7 +41,7 @@ module _ {T V : Type 0} (value : T → V) (k : Kind V) (one : HasOneValue k) (b 
   refused_too e (inl (inr (v, s, f))) = inl (inr (v, s, front k b (rules_of old) v.0 e f))
   refused_too e (inr h) = inr h
 
-  pub decoded : (found : Result (Bor (List ℕ)) (Refusal BerError)) (result : Result T (Refusal BerError)) (new : Cursor) → place_of old ≡ 0 → list_end_of old ≡ None
+  pub decoded : (found : Result (Bor (List ℕ)) (ReadError BerError)) (result : Result T (ReadError BerError)) (new : Cursor) → place_of old ≡ 0 → list_end_of old ≡ None
       → ReadsValue octets_of (integers (rules_of old)) t old found new → DecodesFound value k found result → ReadsValue value k t old result (left_at result old new)
   decoded (Err e) result new p l h q = rw q (record {
     value_read = exactly (Err e.reason) (shows_one_at old (value_shows_one value k t one old)) (λ n k m. m) (passed_on _ _ e.reason h.value_read.found refused_too (λ n k. k) (λ m. m));
@@ -63,7 +63,7 @@ module _ {T V : Type 0} (value : T → V) (k : Kind V) (one : HasOneValue k) (b 
       })
 
   -- what a call in C reads so
-  pub reads_number : {W : Type 0} (Is : T → W → Type 0) (d d' : DmCursor) (found : Result (Bor (List ℕ)) (Refusal BerError)) (result : Result T (Refusal BerError)) (new : Cursor) (v v' : W) (f : DmFault)
+  pub reads_number : {W : Type 0} (Is : T → W → Type 0) (d d' : DmCursor) (found : Result (Bor (List ℕ)) (ReadError BerError)) (result : Result T (ReadError BerError)) (new : Cursor) (v v' : W) (f : DmFault)
       → Continues d old → ReadsValue octets_of (integers (rules_of old)) t old found new → DecodesFound value k found result → Finishes Is d new result d' v v' f
       → ReadsField (ReadsValue value k t) Is d d' v v' f
   reads_number Is d d' found result new v v' f begin h q g =
@@ -73,13 +73,13 @@ module _ {T V : Type 0} (value : T → V) (k : Kind V) (one : HasOneValue k) (b 
 
 module _ {T V : Type 0} (value : T → V) (k : Kind V) (one : HasOneValue k) (b : BeginsWithTests k) where
   -- a value that is read as an INTEGER under the tag of an ENUMERATED, or the one that the next element has
-  under_its_tag : (old tagged new : Cursor) (result : Result T (Refusal BerError)) → IsTagged (class_wanted old.implicit) (number_wanted old.implicit 10) old tagged
+  under_its_tag : (old tagged new : Cursor) (result : Result T (ReadError BerError)) → IsTagged (class_wanted old.implicit) (number_wanted old.implicit 10) old tagged
       → ReadsValue value k 2 tagged result (left_at result tagged new) → ReadsValue value k 10 old result (left_at result old new)
   under_its_tag old tagged new (Ok x) q h = subst (λ c. ReadsValue value k 2 c (Ok x) new → ReadsValue value k 10 old (Ok x) new) (sym q) (λ r. record { value_read = r.value_read; place = r.place }) h
   under_its_tag old tagged new (Err e) q h =
       subst (λ c. ReadsValue value k 2 c (Err e) c → ReadsValue value k 10 old (Err e) old) (sym q) (λ r. record { value_read = r.value_read; place = (r.place.0, refl) }) h
 
-  pub reads_enumerated : {W : Type 0} (Is : T → W → Type 0) (d d' : DmCursor) (tagged : Cursor) (found : Result (Bor (List ℕ)) (Refusal BerError)) (result : Result T (Refusal BerError)) (new : Cursor)
+  pub reads_enumerated : {W : Type 0} (Is : T → W → Type 0) (d d' : DmCursor) (tagged : Cursor) (found : Result (Bor (List ℕ)) (ReadError BerError)) (result : Result T (ReadError BerError)) (new : Cursor)
       (v v' : W) (f : DmFault)
       → ContinuesEnumerated d tagged → ReadsValue octets_of (integers (rules_of tagged)) 2 tagged found new → DecodesFound value k found result → Finishes Is d new result d' v v' f
       → ReadsField (ReadsValue value k 10) Is d d' v v' f

@@ -1,4 +1,3 @@
-pub mod Alike
 pub mod ExactBits
 pub mod ExactNumbers
 pub mod Firsts

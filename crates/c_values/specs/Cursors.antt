@@ -12,7 +12,7 @@ use Rattle.der_base.specs.declared.time.ASN1DateTime.{ASN1DateTime}
 use Rattle.der_base.specs.LeafRefusal.{Test, IsFirstRefusal, NoneHolds, refuse}
 use Rattle.der_base.specs.Refusal.{refusal, der_constraint, invalid_value}
 use Rattle.der_cursor.specs.declared.cursor.Cursor.{Cursor}
-use Rattle.der_cursor.specs.declared.refusal.Refusal.{Refusal}
+use Rattle.der_cursor.specs.declared.error.ReadError.{ReadError}
 use Rattle.der_cursor.specs.Cursors.{IsTagged, class_wanted, end_of, is_inside, number_wanted, octets_left, place_of}
 use Rattle.der_cursor.specs.Cursors.{rules_of}
 use Rattle.der_cursor.specs.Elements.{element_of}
@@ -64,7 +64,7 @@ pub record GoesOn (old : DmCursor) (c : Cursor) (new : DmCursor) : Type 0 where
 
 -- What is wrong with the next element, and its offset in the input. Inside a list an element that is cut short runs
 -- past the end of the list, and no further octets mend it.
-abbrev pub moved_fault : DmCursor → Refusal BerError → DmFault
+abbrev pub moved_fault : DmCursor → ReadError BerError → DmFault
 moved_fault d e = let f = value_fault e in
     if d.is_inside == 0 then record f { offset = stopped (d.offset + f.offset) } else record {
       offset = stopped (d.offset + f.offset);
@@ -77,19 +77,19 @@ moved_fault d e = let f = value_fault e in
     }
 
 -- the cursor of C goes on where the other one is, or it stays
-abbrev pub Moves : {T : Type 0} → DmCursor → Cursor → Result T (Refusal BerError) → DmCursor → Type 0
+abbrev pub Moves : {T : Type 0} → DmCursor → Cursor → Result T (ReadError BerError) → DmCursor → Type 0
 Moves old c (Ok x) new = GoesOn old c new
 Moves old c (Err e) new = new ≡ old
 
-abbrev pub Finishes : {T V : Type 0} → (T → V → Type 0) → DmCursor → Cursor → Result T (Refusal BerError) → DmCursor
+abbrev pub Finishes : {T V : Type 0} → (T → V → Type 0) → DmCursor → Cursor → Result T (ReadError BerError) → DmCursor
     → V → V → DmFault → Type 0
 Finishes Is old c found new value value' f = Moves old c found new
     × Written Is (moved_fault old) found value value' f
 
 -- A call in C reads the next field as a call of der_cursor does (`Reads`), and then they are where it is.
-abbrev pub ReadsField : {T V : Type 0} → (Cursor → Result T (Refusal BerError) → Cursor → Type 0) → (T → V → Type 0)
+abbrev pub ReadsField : {T V : Type 0} → (Cursor → Result T (ReadError BerError) → Cursor → Type 0) → (T → V → Type 0)
     → DmCursor → DmCursor → V → V → DmFault → Type 0
-ReadsField {T} Reads Is old new value value' f = (c : Cursor) × (d : Cursor) × (found : Result T (Refusal BerError))
+ReadsField {T} Reads Is old new value value' f = (c : Cursor) × (d : Cursor) × (found : Result T (ReadError BerError))
     × Continues old c × Reads c found d × Finishes Is old d found new value value' f
 
 abbrev pub IsSame : {V : Type 0} → V → V → Type 0
@@ -109,17 +109,17 @@ abbrev pub IsIdentifier : ObjectIdentifier → DmOctets → Type 0
 IsIdentifier x d = d.octets.now ≡ borrowed_octets x
 
 -- the refusal of the element at the start of an input
-abbrev pub refused_at_start : BerError → Refusal BerError
+abbrev pub refused_at_start : BerError → ReadError BerError
 refused_at_start e = record { offset = 0; list_end = None; reason = Error e }
 
 -- what content octets have, which are those of this element
-abbrev pub RefusesAtStart : {T : Type 0} → Result T BerError → Result T (Refusal BerError) → Type 0
+abbrev pub RefusesAtStart : {T : Type 0} → Result T BerError → Result T (ReadError BerError) → Type 0
 RefusesAtStart (Ok x) result = result ≡ Ok x
 RefusesAtStart (Err e) result = result ≡ Err (refused_at_start e)
 
 -- The content octets that were read there are decoded as the kind says.
-abbrev pub DecodesFound : {T V : Type 0} → (T → V) → Kind V → Result (Bor (List ℕ)) (Refusal BerError)
-    → Result T (Refusal BerError) → Type 0
+abbrev pub DecodesFound : {T V : Type 0} → (T → V) → Kind V → Result (Bor (List ℕ)) (ReadError BerError)
+    → Result T (ReadError BerError) → Type 0
 DecodesFound value k (Err e) result = result ≡ Err e
 DecodesFound {T} value k (Ok w) result = (x : Result T BerError) × Decodes value k w.now x × RefusesAtStart x result
 
@@ -136,7 +136,7 @@ exact_bit_strings r = let k = bit_strings r in
     record { tests = λ w. k.tests w ++ unused_bits_tests w; means = k.means }
 
 -- bits that were read at the start of an input stay, or they are refused there by these tests
-abbrev pub TestsUnusedBits : Result BitString (Refusal BerError) → Result BitString (Refusal BerError) → Type 0
+abbrev pub TestsUnusedBits : Result BitString (ReadError BerError) → Result BitString (ReadError BerError) → Type 0
 TestsUnusedBits (Err e) result = result ≡ Err e
 TestsUnusedBits (Ok b) (Ok x) = NoneHolds (unused_bits_tests (b.unused ∷ b.octets.now)) × (x ≡ b)
 TestsUnusedBits (Ok b) (Err e) = (x : BerError) × IsFirstRefusal (unused_bits_tests (b.unused ∷ b.octets.now)) (refusal x)
@@ -161,6 +161,6 @@ pub record IsInner (old : DmCursor) (c : Cursor) (d : DmCursor) : Type 0 where
 abbrev pub IsAny : Any → DmAny → Type 0
 IsAny a d = HasAny (element_of a) d
 
-abbrev pub end_fault : DmCursor → Result (Unit {0}) (Refusal BerError) → DmFault
+abbrev pub end_fault : DmCursor → Result (Unit {0}) (ReadError BerError) → DmFault
 end_fault d (Ok u) = no_fault
 end_fault d (Err e) = moved_fault d e

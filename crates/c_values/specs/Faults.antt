@@ -8,7 +8,7 @@ use Rattle.der_base.specs.declared.error.Error.TheVariants as error
 use Rattle.der_base.specs.declared.error.Needed.{Needed}
 use Rattle.der_base.specs.declared.error.Needed.TheVariants.{Unknown, Size}
 use Rattle.der_base.specs.Refusal.{refusal}
-use Rattle.der_cursor.specs.declared.refusal.Refusal.{Refusal}
+use Rattle.der_cursor.specs.declared.error.ReadError.{ReadError}
 use Rattle.x509.specs.declared.rules.Rule.{Rule}
 use Rattle.c_values.specs.declared.fault.DmFault.{DmFault}
 use Rattle.c_values.specs.Elements.{bit}
@@ -37,7 +37,7 @@ reason_numbers (reason.Failure e) = (1, 0, 0)
 reason_numbers reason.OutOfMemory = (1, 0, 0)
 
 -- what is wrong with the field of this number, and where
-abbrev pub field_fault : ℕ → Refusal BerError → DmFault
+abbrev pub field_fault : ℕ → ReadError BerError → DmFault
 field_fault field e = record {
   offset = e.offset;
   list_end = unwrap_or e.list_end 0;
@@ -49,7 +49,7 @@ field_fault field e = record {
 }
 
 -- of a reader of one value
-abbrev pub value_fault : Refusal BerError → DmFault
+abbrev pub value_fault : ReadError BerError → DmFault
 value_fault e = field_fault 0 e
 
 -- a certificate breaks a rule

@@ -4,14 +4,13 @@ use Rattle.der_base.specs.declared.rules.Rules.{Rules}
 use Rattle.der_base.specs.Leaf.{IsDerLeaf}
 use Rattle.der_base.specs.Tree.{time}
 use Rattle.der_writer.specs.declared.writer.WriteError.{WriteError}
+use Rattle.der_writer.specs.declared.writer.Writer.{Writer}
 use Rattle.der_writer.specs.Written.{Puts, Returns, StartsAt, Wrote}
 use Rattle.c_values.specs.declared.element.DmElement.{DmElement}
 use Rattle.c_values.specs.declared.outcome.DmOutcome.{DmOutcome}
-use Rattle.c_values.specs.declared.state.DmWriter.{DmWriter}
 use Rattle.c_values.specs.declared.time.DmTime.{DmTime}
 use Rattle.c_values.specs.Outcomes.{FindsBer, FindsDer, Lists}
 use Rattle.c_values.specs.Tested.{has_time, time_of}
-use Rattle.c_values.specs.Writers.{writer_of}
 
 -- the element is within an input of n octets
 abbrev pub IsWithin : ℕ → DmElement → Type 0
@@ -35,9 +34,9 @@ BerFirstLiesWithin = FirstLiesWithin FindsBer
 
 -- Of all that was put since the start, dm_finish tells whether the buffer begins with it; what follows is as it was.
 abbrev pub FinishedIsWritten : Type 0
-FinishedIsWritten = (w : List ℕ) (old new : DmWriter) (found : Result ℕ WriteError)
-    → StartsAt old.octets (writer_of old) → Puts w (writer_of old) (writer_of new) → length new.octets.now < 2 ^ 63
-    → Returns (writer_of new) found → Wrote w old.octets.now new.octets.now found
+FinishedIsWritten = (w : List ℕ) (old new : Writer) (found : Result ℕ WriteError)
+    → StartsAt old.out old → Puts w old new → length new.out.now < 2 ^ 63
+    → Returns new found → Wrote w old.out.now new.out.now found
 
 -- a time that is put is one that DER has
 abbrev pub TimesAreDer : Type 0

@@ -18,7 +18,7 @@ use Rattle.der_elements.specs.Check.Listing.{ListsElement}
 use Rattle.der_elements.specs.Check.Readers.{BeginsWithElement}
 use Rattle.der_elements.specs.declared.cause.Cause.{Cause}
 use Rattle.der_elements.specs.declared.cause.Cause.TheVariants.{Cut}
-use Rattle.der_elements.specs.declared.refusal.Refusal.{Refusal}
+use Rattle.der_elements.specs.declared.error.ElementError.{ElementError}
 use Rattle.der_elements.specs.FirstFault.{IsFirstFaultOf}
 use Rattle.c_values.specs.declared.element.DmElement.{DmElement}
 use Rattle.c_values.specs.declared.outcome.DmOutcome.{DmOutcome}
@@ -59,7 +59,7 @@ greatest_depth = 101
 pub data Lists (r : Rules) (d : ℕ) (i : List ℕ) (old new : List DmElement) (o : DmOutcome) : Type 0 where
   read : (rest : List ℕ) (n : ℕ) → ListsElement r slot_of d i rest n old new
       → o ≡ read_outcome n (length i - length rest) → Lists r d i old new o
-  refused : (f : Refusal) → ((rest : List ℕ) → ¬ BeginsWithElement r d i rest) → IsFirstFaultOf r d i f
+  refused : (f : ElementError) → ((rest : List ℕ) → ¬ BeginsWithElement r d i rest) → IsFirstFaultOf r d i f
       → o ≡ fault_outcome f.cause f.offset → Lists r d i old new o
 
 -- the same where there is no room

@@ -8,7 +8,7 @@ use crate::state::implicit_of;
 use der_base::error::BerError;
 use der_base::header::{Class, Tag};
 use der_base::rules::Rules;
-use der_cursor::{Cursor, Refusal};
+use der_cursor::{Cursor, ReadError};
 
 /// The octets, of the input or of an element's content, that aren't read yet.
 #[repr(C)]
@@ -75,7 +75,7 @@ pub(crate) fn advance<'a>(cursor: &mut DmCursor<'a>, after: Cursor<'a>)
 }
 
 /// The fault of the next element. In a list, a cut element is an error, because no more octets can follow.
-pub(crate) fn moved_fault(cursor: &DmCursor<'_>, e: Refusal<BerError>) -> DmFault
+pub(crate) fn moved_fault(cursor: &DmCursor<'_>, e: ReadError<BerError>) -> DmFault
     ensures { result ≡ moved_fault cursor.now e }
 {
     let fault = field_fault(0, e);
@@ -99,7 +99,7 @@ pub(crate) fn moved_fault(cursor: &DmCursor<'_>, e: Refusal<BerError>) -> DmFaul
 pub fn finish<'a, V: Copy>(
     cursor: &mut DmCursor<'a>,
     after: Cursor<'a>,
-    found: Result<V, Refusal<BerError>>,
+    found: Result<V, ReadError<BerError>>,
     value: &mut V,
 ) -> DmFault
     ensures { Finishes IsSame cursor.old after.entry found cursor.new value.old value.new result }

@@ -5,7 +5,7 @@ ghost use Rattle.c_values.specs.Faults.{field_fault, needed_of, needed_size, no_
 use crate::element::bit;
 use crate::errors::{refusal_number, rule_number};
 use der_base::error::{BerError, Err, Needed};
-use der_cursor::Refusal;
+use der_cursor::ReadError;
 use x509::Rule;
 
 /// The fault of a field reader. If the status is 0, all other fields are 0.
@@ -71,7 +71,7 @@ pub fn no_fault() -> DmFault
 }
 
 /// The fault of the field with this number.
-pub fn field_fault(field: u32, refusal: Refusal<BerError>) -> DmFault
+pub fn field_fault(field: u32, refusal: ReadError<BerError>) -> DmFault
     ensures { result ≡ field_fault field refusal }
 {
     let (status, error, needed) = reason_numbers(refusal.reason);

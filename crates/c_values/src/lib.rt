@@ -11,7 +11,6 @@ pub mod laws;
 pub mod moment;
 pub mod next;
 pub mod octets;
-pub mod opening;
 pub mod outcome;
 pub mod parts;
 pub mod pem;

@@ -1,13 +1,11 @@
 //! Times that C writes.
 ghost use Rattle.std.specs.Prelude.{◌≡◌, IsTrue};
 ghost use Rattle.c_values.specs.Tested.{has_time, has_year, time_of};
-ghost use Rattle.c_values.specs.Writers.{writer_of};
 ghost use Rattle.der_base.specs.Encoding.{content_octets};
 ghost use Rattle.der_base.specs.Leaf.{is_time};
 ghost use Rattle.der_base.specs.Tree.{time as time_content};
 ghost use Rattle.der_writer.specs.Written.{PutsLeaf};
 
-use crate::state::{DmWriter, implicit_of, resume};
 use crate::time::DmTime;
 use der_base::header::Tag;
 use der_base::time::{ASN1DateTime, ASN1TimeZone};
@@ -66,25 +64,13 @@ pub(crate) fn time_of(tag: Tag, time: &DmTime) -> ASN1DateTime
 }
 
 /// Puts a time of this type.
-pub(crate) fn put_moment(writer: &mut DmWriter<'_>, tag: Tag, time: ASN1DateTime)
+pub(crate) fn put_moment(writer: &mut Writer<'_>, tag: Tag, time: ASN1DateTime)
     requires { IsTrue (is_time tag.0) }
-    ensures { PutsLeaf tag.0 (content_octets (time_content tag.0 time)) (writer_of writer.old) (writer_of writer.new) }
-{
-    let implicit = implicit_of(writer.implicit, writer.number);
-    let mut fields = resume(writer.octets, writer.count, implicit);
-    put_time_of(&mut fields, tag, time);
-    writer.count = fields.count();
-    writer.implicit = 0;
-}
-
-/// Puts a time of this type into a DER writer.
-fn put_time_of(fields: &mut Writer<'_>, tag: Tag, time: ASN1DateTime)
-    requires { IsTrue (is_time tag.0) }
-    ensures { PutsLeaf tag.0 (content_octets (time_content tag.0 time)) fields.old fields.new }
+    ensures { PutsLeaf tag.0 (content_octets (time_content tag.0 time)) writer.old writer.new }
 {
     if tag == Tag::UtcTime {
-        fields.put_utc_time(time);
+        writer.put_utc_time(time);
     } else {
-        fields.put_generalized_time(time);
+        writer.put_generalized_time(time);
     }
 }

@@ -8,7 +8,7 @@ ghost use Rattle.der_base.specs.declared.rules.Rules.{Rules};
 ghost use Rattle.der_base.specs.LeafRefusal.{IsFirstRefusal, NoneHolds};
 ghost use Rattle.der_base.specs.Numbers.{signed, unsigned};
 ghost use Rattle.der_base.specs.Refusal.{refusal};
-ghost use Rattle.der_cursor.specs.declared.refusal.Refusal.{Refusal};
+ghost use Rattle.der_cursor.specs.declared.error.ReadError.{ReadError};
 ghost use Rattle.der_cursor.specs.declared.cursor.Cursor.{Cursor};
 ghost use Rattle.der_values.specs.Kinds.{enumerated_numbers, integers, numbers};
 
@@ -24,14 +24,14 @@ use der_base::error::{BerError, DerConstraint, Err as Refused};
 use der_base::header::Tag;
 use der_base::rules::Rules;
 use der_base::time::ASN1DateTime;
-use der_cursor::{Cursor, Refusal};
+use der_cursor::{Cursor, ReadError};
 use der_values::{BitString, ObjectIdentifier, read_enumerated, read_i64, read_integer, read_u64};
 
 /// Writes a BOOLEAN and moves after it; or returns the fault.
 pub fn finish_bool<'a>(
     cursor: &mut DmCursor<'a>,
     after: Cursor<'a>,
-    found: Result<bool, Refusal<BerError>>,
+    found: Result<bool, ReadError<BerError>>,
     value: &mut u8,
 ) -> DmFault
     ensures { Finishes IsBit cursor.old after.entry found cursor.new value.old value.new result }
@@ -50,7 +50,7 @@ pub fn finish_bool<'a>(
 pub fn finish_octets<'a>(
     cursor: &mut DmCursor<'a>,
     after: Cursor<'a>,
-    found: Result<&'a [u8], Refusal<BerError>>,
+    found: Result<&'a [u8], ReadError<BerError>>,
     octets: &mut DmOctets<'a>,
 ) -> DmFault
     ensures { Finishes IsOctets cursor.old after.entry found.entry cursor.new octets.old octets.new result }
@@ -69,7 +69,7 @@ pub fn finish_octets<'a>(
 pub fn finish_oid<'a>(
     cursor: &mut DmCursor<'a>,
     after: Cursor<'a>,
-    found: Result<ObjectIdentifier<'a>, Refusal<BerError>>,
+    found: Result<ObjectIdentifier<'a>, ReadError<BerError>>,
     octets: &mut DmOctets<'a>,
 ) -> DmFault
     ensures { Finishes IsIdentifier cursor.old after.entry found.entry cursor.new octets.old octets.new result }
@@ -87,8 +87,8 @@ pub fn finish_oid<'a>(
 /// The octets of an INTEGER at the start of an input. Also in BER they must be the fewest (X.690 8.3.1, 8.3.2);
 /// `Cursor::integer` takes any, as der-parser does.
 pub fn exact_integer<'a>(
-    found: Result<&'a [u8], Refusal<BerError>>,
-) -> Result<&'a [u8], Refusal<BerError>>
+    found: Result<&'a [u8], ReadError<BerError>>,
+) -> Result<&'a [u8], ReadError<BerError>>
     ensures { DecodesFound (λ v. v.now) (integers Rules.Der) found.entry result }
 {
     match found {
@@ -98,7 +98,7 @@ pub fn exact_integer<'a>(
 }
 
 /// The number from 0 to 2^64-1 of an INTEGER, whose octets must be the fewest.
-pub fn exact_u64(found: Result<&[u8], Refusal<BerError>>) -> Result<u64, Refusal<BerError>>
+pub fn exact_u64(found: Result<&[u8], ReadError<BerError>>) -> Result<u64, ReadError<BerError>>
     ensures { DecodesFound pos (numbers Rules.Der (unsigned 64)) found.entry result }
 {
     match found {
@@ -108,7 +108,7 @@ pub fn exact_u64(found: Result<&[u8], Refusal<BerError>>) -> Result<u64, Refusal
 }
 
 /// The number from -2^63 to 2^63-1 of an INTEGER, whose octets must be the fewest.
-pub fn exact_i64(found: Result<&[u8], Refusal<BerError>>) -> Result<i64, Refusal<BerError>>
+pub fn exact_i64(found: Result<&[u8], ReadError<BerError>>) -> Result<i64, ReadError<BerError>>
     ensures { DecodesFound (λ v. v) (numbers Rules.Der (signed 64)) found.entry result }
 {
     match found {
@@ -118,7 +118,9 @@ pub fn exact_i64(found: Result<&[u8], Refusal<BerError>>) -> Result<i64, Refusal
 }
 
 /// The number from 0 to 2^64-1 of an ENUMERATED that was read as an INTEGER (X.690 8.4). Its octets must be the fewest.
-pub fn exact_enumerated(found: Result<&[u8], Refusal<BerError>>) -> Result<u64, Refusal<BerError>>
+pub fn exact_enumerated(
+    found: Result<&[u8], ReadError<BerError>>,
+) -> Result<u64, ReadError<BerError>>
     ensures { DecodesFound (λ v. v) (enumerated_numbers Rules.Der) found.entry result }
 {
     match found {
@@ -128,7 +130,7 @@ pub fn exact_enumerated(found: Result<&[u8], Refusal<BerError>>) -> Result<u64, 
 }
 
 /// The value of content octets, or their error at the start of an input.
-fn at_start<T>(value: Result<T, BerError>) -> Result<T, Refusal<BerError>>
+fn at_start<T>(value: Result<T, BerError>) -> Result<T, ReadError<BerError>>
     ensures { RefusesAtStart value result }
 {
     match value {
@@ -138,10 +140,10 @@ fn at_start<T>(value: Result<T, BerError>) -> Result<T, Refusal<BerError>>
 }
 
 /// An error at the start of an input.
-fn refused_at_start(e: BerError) -> Refusal<BerError>
+fn refused_at_start(e: BerError) -> ReadError<BerError>
     ensures { result ≡ refused_at_start e }
 {
-    Refusal {
+    ReadError {
         offset: 0,
         list_end: None,
         reason: Refused::Error(e),
@@ -150,8 +152,8 @@ fn refused_at_start(e: BerError) -> Refusal<BerError>
 
 /// Bits at the start of an input, or the error of their unused bits.
 pub fn with_unused_bits_tested<'a>(
-    found: Result<BitString<'a>, Refusal<BerError>>,
-) -> Result<BitString<'a>, Refusal<BerError>>
+    found: Result<BitString<'a>, ReadError<BerError>>,
+) -> Result<BitString<'a>, ReadError<BerError>>
     ensures { TestsUnusedBits found.entry result }
 {
     match found {
@@ -183,7 +185,7 @@ fn check_unused_bits(bits: BitString<'_>) -> Result<(), BerError>
 pub fn finish_bits<'a>(
     cursor: &mut DmCursor<'a>,
     after: Cursor<'a>,
-    found: Result<BitString<'a>, Refusal<BerError>>,
+    found: Result<BitString<'a>, ReadError<BerError>>,
     value: &mut DmBits<'a>,
 ) -> DmFault
     ensures { Finishes IsBits cursor.old after.entry found.entry cursor.new value.old value.new result }
@@ -202,7 +204,7 @@ pub fn finish_bits<'a>(
 pub fn finish_opening<'a>(
     cursor: &mut DmCursor<'a>,
     after: Cursor<'a>,
-    found: Result<Cursor<'a>, Refusal<BerError>>,
+    found: Result<Cursor<'a>, ReadError<BerError>>,
     inner: &mut DmCursor<'a>,
 ) -> DmFault
     ensures { Finishes (IsInner cursor.old) cursor.old after.entry found.entry cursor.new inner.old inner.new result }
@@ -235,7 +237,7 @@ fn inner_cursor<'a>(cursor: &DmCursor<'a>, inner: Cursor<'a>) -> DmCursor<'a>
 pub fn finish_time<'a>(
     cursor: &mut DmCursor<'a>,
     after: Cursor<'a>,
-    found: Result<ASN1DateTime, Refusal<BerError>>,
+    found: Result<ASN1DateTime, ReadError<BerError>>,
     time: &mut DmTime,
 ) -> DmFault
     ensures { Finishes IsTime cursor.old after.entry found cursor.new time.old time.new result }
@@ -254,7 +256,7 @@ pub fn finish_time<'a>(
 pub fn finish_null<'a>(
     cursor: &mut DmCursor<'a>,
     after: Cursor<'a>,
-    found: Result<(), Refusal<BerError>>,
+    found: Result<(), ReadError<BerError>>,
 ) -> DmFault
     ensures { Finishes IsNull cursor.old after.entry found cursor.new tt tt result }
 {
@@ -271,7 +273,7 @@ pub fn finish_null<'a>(
 pub fn finish_any<'a>(
     cursor: &mut DmCursor<'a>,
     after: Cursor<'a>,
-    found: Result<Any<'a>, Refusal<BerError>>,
+    found: Result<Any<'a>, ReadError<BerError>>,
     element: &mut DmAny<'a>,
 ) -> DmFault
     ensures { Finishes IsAny cursor.old after.entry found.entry cursor.new element.old element.new result }
@@ -287,7 +289,7 @@ pub fn finish_any<'a>(
 }
 
 /// The fault of a list with octets left over.
-pub fn end_fault(cursor: &DmCursor<'_>, found: Result<(), Refusal<BerError>>) -> DmFault
+pub fn end_fault(cursor: &DmCursor<'_>, found: Result<(), ReadError<BerError>>) -> DmFault
     ensures { result ≡ end_fault cursor.now found }
 {
     match found {

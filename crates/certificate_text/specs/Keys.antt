@@ -1,5 +1,5 @@
 -- Public keys in words (RFC 5280 4.1.2.7).
-use Rattle.std.specs.Prelude.{◌≡◌, ◌≢◌, ℕ, ◌-◌, ◌*◌, ◌⊎◌, List, [], ◌∷◌, ◌++◌, codes, decimal, length}
+use Rattle.std.specs.Prelude.{◌≡◌, ◌≢◌, ◌==◌, if◌then◌else◌, ℕ, ◌-◌, ◌*◌, ◌⊎◌, List, [], ◌∷◌, ◌++◌, codes, decimal, length}
 use Rattle.std.specs.Int.{leading_zeros, w8}
 use Rattle.der_base.specs.declared.rules.Rules.TheVariants.{Der}
 use Rattle.der_cursor.specs.Formats.{ObjectIdentifier, Only, Required}
@@ -7,6 +7,7 @@ use Rattle.der_print.specs.Values.{without_leading_zero}
 use Rattle.x509.specs.Certificates.{KeyInfo}
 use Rattle.x509.specs.Formats.{spells}
 use Rattle.x509_keys.specs.OtherKeys.{RsaPublicValue, whole_rsa_public_key}
+use Rattle.type_words.specs.Texts.{count_text}
 use Rattle.extension_text.specs.Names.Identifiers.{IsIdentifierLine}
 use Rattle.extension_text.specs.Names.Pieces.{Then}
 use Rattle.extension_text.specs.Names.Values.{line, octets_line}
@@ -28,12 +29,20 @@ abbrev pub IsSize : List ℕ → List ℕ → Type 0
 IsSize w text = ((k : RsaPublicValue) × spells whole_rsa_public_key w k [] × (text ≡ size_text k.0))
     ⊎ (((k : RsaPublicValue) → ¬ spells whole_rsa_public_key w k []) × (text ≡ octets_line (codes "    Octets: ") w))
 
+-- a SEQUENCE has the parameters of a curve (RFC 3279 2.3.5)
+abbrev pub label_by : ℕ → List ℕ
+label_by b = if b == 0x30 then codes "    Explicit curve: " else codes "    Parameters: "
+
+abbrev pub parameters_label : List ℕ → List ℕ
+parameters_label [] = codes "    Parameters: "
+parameters_label (b ∷ w) = label_by b
+
 -- the parameters are the identifier of a curve (RFC 5480 2.1.1), or not
 abbrev pub IsCurve : List ℕ → List ℕ → Type 0
 IsCurve w text =
     ((x : List ℕ) × Only (Required ObjectIdentifier) Der w x × IsIdentifierLine (codes "    Curve: ") x text)
     ⊎ (((x : List ℕ) → ¬ Only (Required ObjectIdentifier) Der w x)
-    × (text ≡ octets_line (codes "    Parameters: ") w))
+    × (text ≡ octets_line (parameters_label w) w))
 
 -- rsaEncryption, 1.2.840.113549.1.1.1 (RFC 8017 A.1), and id-ecPublicKey, 1.2.840.10045.2.1 (RFC 5480 2.1.1)
 abbrev pub rsa_encryption : List ℕ
@@ -46,7 +55,7 @@ abbrev pub IsDetail : KeyInfo → List ℕ → Type 0
 IsDetail k text = let a = k.algorithm.algorithm in let w = k.key.1 in
     ((a ≡ rsa_encryption) × IsSize w text)
     ⊎ ((a ≡ ec_public_key) × IsCurve k.algorithm.parameters text)
-    ⊎ ((a ≢ rsa_encryption) × (a ≢ ec_public_key) × (text ≡ line (codes "    Octets: ") (decimal (length w))))
+    ⊎ ((a ≢ rsa_encryption) × (a ≢ ec_public_key) × (text ≡ line (codes "    Size: ") (count_text (length w))))
 
 abbrev pub IsKey : KeyInfo → List ℕ → Type 0
 IsKey k = Then (IsIdentifierLine (codes "  Public key: ") k.algorithm.algorithm) (IsDetail k)

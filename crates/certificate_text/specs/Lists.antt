@@ -9,7 +9,7 @@ use Rattle.x509.specs.Crl.Lists.{Revoked, Signed, Tbs, revoked_certificate}
 use Rattle.x509.specs.Crl.Reasons.{CRLReason}
 use Rattle.der_base.specs.declared.error.Error.{Error as BerError}
 use Rattle.der_base.specs.declared.rules.Rules.TheVariants.{Der}
-use Rattle.der_cursor.specs.declared.refusal.Refusal.{Refusal}
+use Rattle.der_cursor.specs.declared.error.ReadError.{ReadError}
 use Rattle.der_cursor.specs.Formats.{Never, ReadsInput}
 use Rattle.der_extensions.specs.declared.value.ExtensionValue.{ExtensionValue}
 use Rattle.der_extensions.specs.declared.value.ExtensionValue.TheVariants as value
@@ -47,16 +47,16 @@ abbrev pub reason_line : Reason → List ℕ
 reason_line r = line (codes "        Reason: ") (reason_name r)
 
 -- the reason that a value is, or that it is none
-abbrev pub IsReasonResult : List ℕ → Result Reason (Refusal BerError) → List ℕ → Type 0
+abbrev pub IsReasonResult : List ℕ → Result Reason (ReadError BerError) → List ℕ → Type 0
 IsReasonResult w (Ok r) = Exactly (reason_line r)
 IsReasonResult w (Err e) = IsUnread (codes "        ") w e
 
 abbrev pub IsReason : List ℕ → List ℕ → Type 0
 IsReason w text =
-    (r : Result Reason (Refusal BerError)) × ReadsInput Der CRLReason (λ v. v) Never w r × IsReasonResult w r text
+    (r : Result Reason (ReadError BerError)) × ReadsInput Der CRLReason (λ v. v) Never w r × IsReasonResult w r text
 
 -- what the value of an extension of an entry says; w has the octets of one that isn't shown otherwise
-abbrev pub IsEntryResult : List ℕ → Result ExtensionValue (Refusal BerError) → List ℕ → Type 0
+abbrev pub IsEntryResult : List ℕ → Result ExtensionValue (ReadError BerError) → List ℕ → Type 0
 IsEntryResult w (Ok value.ReasonCode) = IsReason w
 IsEntryResult w (Ok (value.InvalidityDate t)) = Exactly (time_line (codes "        Invalid since: ") t)
 IsEntryResult w (Ok (value.CertificateIssuer x)) = AreGeneralNames (codes "        ") (list_octets x)
@@ -65,7 +65,7 @@ IsEntryResult w r = Exactly (octets_line (codes "        Octets: ") w)
 
 abbrev pub IsEntryRead : Extension → List ℕ → Type 0
 IsEntryRead e text =
-    (r : Result ExtensionValue (Refusal BerError)) × ReadsExtension e r × IsEntryResult e.value.now r text
+    (r : Result ExtensionValue (ReadError BerError)) × ReadsExtension e r × IsEntryResult e.value.now r text
 
 abbrev pub IsEntryValue : ExtensionFields → List ℕ → Type 0
 IsEntryValue v text = (e : Extension) × (extension_of e ≡ v) × IsEntryRead e text

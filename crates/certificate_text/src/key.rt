@@ -7,15 +7,16 @@ ghost use Rattle.der_print.specs.Writes.{WritesOne};
 ghost use Rattle.der_values.specs.Kinds.{borrowed_octets};
 ghost use Rattle.x509.specs.Certificates.{key_info_of};
 ghost use Rattle.certificate_text.specs.Keys.{IsCurve, IsDetail, IsKey, IsSize, bit_length, ec_public_key};
-ghost use Rattle.certificate_text.specs.Keys.{rsa_encryption, size_text};
+ghost use Rattle.certificate_text.specs.Keys.{label_by, parameters_label, rsa_encryption, size_text};
 
 use der_base::error::BerError;
-use der_cursor::{Cursor, Refusal};
+use der_cursor::{Cursor, ReadError};
 use der_values::ObjectIdentifier;
 use extension_text::names::identifier::write_identifier_line;
 use extension_text::names::lines::write_octets;
 use extension_text::names::serial::without_leading_zero;
 use std::fmt;
+use type_words::Count;
 use x509::{SubjectPublicKeyInfo, absolute_octets};
 use x509_keys::read_rsa_public_key;
 
@@ -49,7 +50,8 @@ fn write_detail<W: fmt::Write>(
     if is_elliptic(&key.algorithm.algorithm) {
         return write_curve(f, key.algorithm.parameters);
     }
-    write!(f, "    Octets: {}\n", key.subject_public_key.octets.len())
+    let count = Count(key.subject_public_key.octets.len());
+    write!(f, "    Size: {count}\n")
 }
 
 fn is_rsa(algorithm: &ObjectIdentifier<'_>) -> bool
@@ -91,18 +93,42 @@ fn bit_length(octets: &[u8]) -> u128
     }
 }
 
+/// The identifier octet of a SEQUENCE (X.690 8.1.2, 8.9).
+const SEQUENCE: u8 = 0x30;
+
 /// Writes the name of a curve, or parameters that don't name one.
 fn write_curve<W: fmt::Write>(f: &mut fmt::Formatter<W>, parameters: &[u8]) -> fmt::Result
     ensures { WritesOne W.Write.write_str_gives f.old result (IsCurve parameters.now) f.new }
 {
     match read_curve(parameters) {
         Ok(curve) => write_identifier_line(f, "    Curve: ", &curve),
-        Err(_) => write_octets(f, "    Parameters: ", parameters),
+        Err(_) => write_octets(f, parameters_label(parameters), parameters),
+    }
+}
+
+/// The label of parameters that don't name a curve.
+fn parameters_label(parameters: &[u8]) -> &'static str
+    ensures { result.now ≡ parameters_label parameters.now }
+{
+    match parameters {
+        [first, ..] => label_by(*first),
+        [] => "    Parameters: ",
+    }
+}
+
+/// The label of parameters that begin with this octet. A SEQUENCE has those of a curve (RFC 3279 2.3.5).
+fn label_by(first: u8) -> &'static str
+    ensures { result.now ≡ label_by first }
+{
+    if first == SEQUENCE {
+        "    Explicit curve: "
+    } else {
+        "    Parameters: "
     }
 }
 
 /// Reads the parameters of an elliptic key: the identifier of a curve (RFC 5480 2.1.1).
-fn read_curve(parameters: &[u8]) -> Result<ObjectIdentifier<'_>, Refusal<BerError>>
+fn read_curve(parameters: &[u8]) -> Result<ObjectIdentifier<'_>, ReadError<BerError>>
     ensures { ReadsWhole (Only (Required IdentifierFormat) Rules.Der parameters.now) borrowed_octets Never result }
 {
     let mut input = Cursor::new(parameters);

@@ -2,7 +2,6 @@ pub mod Changing
 pub mod Choosing
 pub mod Collecting
 pub mod Fielding
-pub mod Lettering
 pub mod Looking
 pub mod NamePaths
 pub mod Octets

@@ -1,6 +1,5 @@
 -- The type that names the elements of an input, and whether the input has it.
-use Rattle.std.specs.Prelude.{◌≡◌, ℕ, Bool, true, false, Option, Some, None, List, [], ◌∷◌, map}
-use Rattle.std.specs.Char.{to_ascii_lowercase}
+use Rattle.std.specs.Prelude.{◌≡◌, ℕ, Bool, true, false, Option, Some, None, List, [], ◌∷◌}
 use Rattle.der_base.specs.declared.rules.Rules.{Rules}
 use Rattle.der_actions.specs.declared.options.Action.{Action}
 use Rattle.der_actions.specs.declared.options.Action.TheVariants.{Tree, Check, Json, Canon, Get, Show}
@@ -14,7 +13,7 @@ use Rattle.der_known.specs.declared.known.KnownTypes.{KnownTypes}
 use Rattle.der_schema.specs.declared.known.KnownType.{KnownType}
 use Rattle.der_schema.specs.declared.schema.Component.{Component}
 use Rattle.der_schema.specs.declared.schema.Schema.{Schema}
-use Rattle.der_schema.specs.Known.{IsFirstSchema, IsKnownType, IsOfType}
+use Rattle.der_schema.specs.Known.{IsFirstSchema, IsKnownType, IsOfType, SameLetters}
 use Rattle.der_schema.specs.Meaning.{all_types, root_of}
 use Rattle.der_elements.specs.Visits.{Visited}
 
@@ -66,10 +65,6 @@ names_elements Show = false
 abbrev pub by_type : Option Schema → Option Naming
 by_type None = None
 by_type (Some schema) = Some (By schema)
-
--- two names have the same letters, in any case
-abbrev pub SameLetters : List ℕ → List ℕ → Type 0
-SameLetters name other = map to_ascii_lowercase name ≡ map to_ascii_lowercase other
 
 -- the naming with the first known type of this name, in any case of its letters; None if there is none
 abbrev pub IsByName : KnownTypes → List ℕ → Option Naming → Type 0

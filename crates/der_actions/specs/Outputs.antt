@@ -23,7 +23,7 @@ use Rattle.der_actions.specs.Namings.{IsAsAsked, IsExposedBy, IsNamedBy, field_i
 use Rattle.der_actions.specs.Parts.{AreOctetsOf, AreWrittenOf}
 use Rattle.der_actions.specs.Pem.{IsPem}
 use Rattle.der_actions.specs.Places.{AreNotAsked, IsAsked}
-use Rattle.der_elements.specs.declared.refusal.Refusal.{Refusal}
+use Rattle.der_elements.specs.declared.error.ElementError.{ElementError}
 use Rattle.der_elements.specs.declared.walk.Walk.{Walk}
 use Rattle.der_elements.specs.Visits.{Extras, Visited, Visits}
 use Rattle.der_elements.specs.Walked.{HasVisited, IsRefused}
@@ -146,7 +146,7 @@ pub record WritesPart (o : Options) (i : List ℕ) (old new : Option (List ℕ))
 
 -- octets are rejected after these elements
 abbrev pub IsRefusedAfter : Options → List ℕ → List Visited → Type 0
-IsRefusedAfter o i vs = (w : Walk) × (f : Refusal) × IsRefused (extras_of o) o.rules i vs w f
+IsRefusedAfter o i vs = (w : Walk) × (f : ElementError) × IsRefused (extras_of o) o.rules i vs w f
 
 -- octets are rejected after these elements; or these are all, and none is listed or the octets don't have the type of
 -- the options

@@ -1,18 +1,14 @@
 //! The type that names the elements of an input.
 ghost use Rattle.std.specs.Prelude.{◌≡◌, ◌≢◌, ◌↔◌, ◌⊎◌, IfSome, IsTrue, None, Some, codes, false, true};
 ghost use Rattle.std.specs.Prelude.{if◌then◌else◌};
-ghost use Rattle.std.specs.Prelude.{MatchOption};
-ghost use Rattle.std.specs.List.{All};
-ghost use Rattle.der_schema.specs.Known.{IsFirstOf};
-ghost use Rattle.der_schema.specs.declared.known.KnownType.{KnownType};
-ghost use Rattle.der_actions.specs.Namings.{IsAsAsked, IsByName, IsNamedBy, SameLetters, names_elements};
+ghost use Rattle.der_actions.specs.Namings.{IsAsAsked, IsByName, IsNamedBy, names_elements};
 ghost use Rattle.der_actions.specs.declared.options.Action.{Action};
 ghost use Rattle.der_actions.specs.declared.options.Naming.{Naming};
 
 use crate::options::{Action, Naming};
 use der_elements::Rules;
 use der_known::KnownTypes;
-use der_schema::{KnownType, Schema, is_of_type};
+use der_schema::{Schema, is_of_type};
 
 /// The word for the first known type of an input.
 const AUTO: &str = "auto";
@@ -80,27 +76,10 @@ fn naming_said<'a>(action: Action, word: &str, types: &'a KnownTypes) -> Option<
 fn naming_by<'a>(types: &'a KnownTypes, name: &str) -> Option<Naming<'a>>
     ensures { IsByName types.now name.now result }
 {
-    let known = known_name(types.known(), name)?;
-    match types.type_named(known) {
+    match types.type_with_letters(name) {
         Some(schema) => Some(Naming::By(schema)),
         None => None,
     }
-}
-
-/// The name of the first of these types that has the letters of a name, in any case.
-fn known_name(known: &'static [KnownType], name: &str) -> Option<&'static str>
-    ensures { MatchOption result (All (λ k. ¬ SameLetters k.name.now name.now) known.now)
-        (λ full. (k : KnownType) × IsFirstOf (λ k. SameLetters k.name.now name.now) known.now k
-        × (full.now ≡ k.name.now)) }
-{
-    let mut ahead = known;
-    while let Some((one, rest)) = ahead.split_first() {
-        if one.name.eq_ignore_ascii_case(name) {
-            return Some(one.name);
-        }
-        ahead = rest;
-    }
-    None
 }
 
 /// The type that names the elements of an input, if there is one.

@@ -13,7 +13,7 @@ use crate::options::{Action, Naming, Options};
 use crate::origin::Origin;
 use crate::place::Place;
 use der_elements::check::are_elements;
-use der_elements::{MAX_DEPTH, Path, Reason, Refusal, Rules, Walk};
+use der_elements::{ElementError, MAX_DEPTH, Path, Reason, Rules, Walk};
 use der_input::FormError;
 use der_known::KnownTypes;
 use der_schema::Schema;
@@ -216,7 +216,7 @@ pub fn report_unknown_type<X: Write>(
 pub(crate) fn report_refusal<W: Write, X: Write>(
     origin: Origin<'_>,
     walk: &Walk<'_>,
-    refusal: &Refusal,
+    refusal: &ElementError,
     out: &mut W,
     err: &mut X,
 ) -> io::Result<bool>
@@ -269,7 +269,7 @@ fn report_place_missing<X: Write>(
 pub(crate) fn report<X: Write>(
     origin: Origin<'_>,
     walk: &Walk<'_>,
-    refusal: &Refusal,
+    refusal: &ElementError,
     err: &mut X,
 ) -> io::Result<()> {
     report_place(

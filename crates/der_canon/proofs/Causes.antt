@@ -2,7 +2,7 @@
 use Rattle.std.proofs.Common.{◌≡◌, ℕ, true, false, List, refl, sym, ap, ◌∙◌}
 use Rattle.der_elements.specs.declared.cause.Cause.{Cause}
 use Rattle.der_elements.specs.declared.cause.Cause.TheVariants.{NotDer, Value}
-use Rattle.der_elements.specs.declared.refusal.Refusal.{Refusal}
+use Rattle.der_elements.specs.declared.error.ElementError.{ElementError}
 use Rattle.der_elements.specs.declared.walk.Walk.{Walk}
 use Rattle.der_elements.specs.Visits.{Visited}
 use Rattle.der_canon.specs.declared.error.NotCanonical.{NotCanonical}
@@ -22,7 +22,7 @@ about_der i vs v c (value a b k h) = about c _ h.2 refl
 differ : {A : Type 0} → true ≡ false → A
 differ e = absurd (cc)
 
-of_first : (i : List ℕ) (vs : List Visited) (w : Walk) (f : Refusal) (e : NotCanonical) → IsFirstError i vs w f → e.cause ≡ f.cause → IsRefusalOf i e
+of_first : (i : List ℕ) (vs : List Visited) (w : Walk) (f : ElementError) (e : NotCanonical) → IsFirstError i vs w f → e.cause ≡ f.cause → IsRefusalOf i e
 of_first i vs w f e (ber refused) same = λ h a. let v = all_visited a 0 0 in refused.never v.0 v.1
 of_first i vs w f e (der v visited none place step) same = λ h. differ (sym (about e.cause f.cause same (about_der i vs v f.cause none)) ∙ h)
 

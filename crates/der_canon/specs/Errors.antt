@@ -9,7 +9,7 @@ use Rattle.der_elements.specs.declared.cause.Cause.{Cause}
 use Rattle.der_elements.specs.declared.cause.Cause.TheVariants.{NotDer, OtherPart, UnusedBitsInside, Value}
 use Rattle.der_elements.specs.declared.element.Element.{Element}
 use Rattle.der_elements.specs.declared.path.Step.{Step}
-use Rattle.der_elements.specs.declared.refusal.Refusal.{Refusal}
+use Rattle.der_elements.specs.declared.error.ElementError.{ElementError}
 use Rattle.der_elements.specs.declared.walk.Walk.{Walk}
 use Rattle.der_elements.specs.Faults.{IsStep}
 use Rattle.der_elements.specs.Visits.{Visited, Visits}
@@ -34,13 +34,13 @@ IsStepTo v n (Some s) = (v.constructed ≡ false) × IsStep s v.class v.number n
 IsStepTo v n None = v.constructed ≡ true
 
 -- After vs the walk by BER is refused, or its next element is the first that has no form in DER.
-pub data IsFirstError (i : List ℕ) (vs : List Visited) (w : Walk) (f : Refusal) : Type 0 where
+pub data IsFirstError (i : List ℕ) (vs : List Visited) (w : Walk) (f : ElementError) : Type 0 where
   ber : IsRefused no_extras Ber i vs w f → IsFirstError i vs w f
   der : (v : Visited) → HasVisited no_extras Ber i w (vs ++ v ∷ []) → HasNoDer i vs v f.cause → f.offset ≡ v.offset
       → IsStepTo v (index_in v.depth vs) f.step → IsFirstError i vs w f
 
 -- e is the error, with its path
-pub record IsToldOf (w : Walk) (f : Refusal) (e : NotCanonical) : Type 0 where
+pub record IsToldOf (w : Walk) (f : ElementError) (e : NotCanonical) : Type 0 where
   pub offset : e.offset ≡ f.offset
   pub cause : e.cause ≡ f.cause
   pub path : e.path.steps.items ≡ steps_of w.opened.items ++ option_to_list f.step
@@ -49,7 +49,7 @@ pub record IsToldOf (w : Walk) (f : Refusal) (e : NotCanonical) : Type 0 where
 pub record IsFirstFault (i : List ℕ) (e : NotCanonical) : Type 0 where
   pub before : List Visited
   pub walk : Walk
-  pub refusal : Refusal
+  pub refusal : ElementError
   pub have : HaveDer i before
   pub error : IsFirstError i before walk refusal
   pub told : IsToldOf walk refusal e
@@ -67,7 +67,7 @@ pub record HasRead (i : List ℕ) (vs : List Visited) (p : Pieces) : Type 0 wher
   pub have : HaveDer i vs
 
 -- one more has, or there is none, or it is the first error
-abbrev pub ReadsOn : List ℕ → List Visited → Pieces → Result (Option Piece) Refusal → Type 0
+abbrev pub ReadsOn : List ℕ → List Visited → Pieces → Result (Option Piece) ElementError → Type 0
 ReadsOn i vs p (Ok (Some x)) = HasRead i (vs ++ visited_of x.element ∷ []) p
 ReadsOn i vs p (Ok None) = Unit {0}
 ReadsOn i vs p (Err f) = IsFirstError i vs p.walk f

@@ -4,7 +4,7 @@ use Rattle.std.specs.Prelude.{List, [], ◌∷◌, ◌++◌, Result, Ok, Err, �
 use Rattle.der_base.specs.declared.rules.Rules.TheVariants.{Ber, Der}
 use Rattle.der_base.specs.declared.header.Class.TheVariants.{Universal}
 use Rattle.der_contents.specs.ContentRules.{IsContent}
-use Rattle.der_elements.specs.declared.refusal.Refusal.{Refusal}
+use Rattle.der_elements.specs.declared.error.ElementError.{ElementError}
 use Rattle.der_elements.specs.Visits.{Visited, Visits}
 use Rattle.der_elements.specs.Walked.{HasOctets, HasVisited, visited_of}
 use Rattle.der_canon.specs.declared.piece.Form.{Form}
@@ -36,7 +36,7 @@ KeepsForm i v form = has_header form ≡ true → v.constructed ≡ false → v.
     → IsContent Der v.number (content_in_der v.number (content_of i v))
 
 -- one more piece, or the end of the input
-abbrev pub PieceNext : List ℕ → List Visited → Option Parts → Pieces → Result (Option Piece) Refusal → Type 0
+abbrev pub PieceNext : List ℕ → List Visited → Option Parts → Pieces → Result (Option Piece) ElementError → Type 0
 PieceNext i vs s p (Ok (Some x)) = HasVisited no_extras Ber i p.walk (vs ++ visited_of x.element ∷ [])
     × HasOctets i x.element × IsForm s (visited_of x.element) x.form p.parts × (x.element.depth ≤ 100)
     × KeepsForm i (visited_of x.element) x.form

@@ -14,7 +14,7 @@ use crate::value::check_value;
 use der_base::header::{Class, Tag};
 use der_base::rules::Rules;
 use der_base::text::is_text_type;
-use der_elements::{Cause, Element, Refusal, Walk};
+use der_elements::{Cause, Element, ElementError, Walk};
 
 /// How an element is written.
 #[derive(Clone, Copy, Debug, PartialEq)]
@@ -80,7 +80,7 @@ impl<'a> Pieces<'a> {
     }
 
     /// The next element. None at the end of the input.
-    pub(crate) fn next_piece(&mut self) -> Result<Option<Piece<'a>>, Refusal>
+    pub(crate) fn next_piece(&mut self) -> Result<Option<Piece<'a>>, ElementError>
         ensures next { (i : List ℕ) (vs : List Visited) → HasVisited no_extras Rules.Ber i self.old.walk vs
             → PieceNext i vs self.old.parts self.new result }
         ensures errors { (i : List ℕ) (vs : List Visited) → HasRead i vs self.old → ReadsOn i vs self.new result }
@@ -98,7 +98,7 @@ impl<'a> Pieces<'a> {
     }
 
     /// Where and why the input isn't written.
-    pub(crate) fn refuse(&self, refusal: &Refusal) -> NotCanonical
+    pub(crate) fn refuse(&self, refusal: &ElementError) -> NotCanonical
         ensures { IsToldOf self.now.walk refusal.now result }
     {
         refuse(&self.walk, refusal)
@@ -106,7 +106,7 @@ impl<'a> Pieces<'a> {
 }
 
 /// Where and why a walk ends before its input does.
-pub(crate) fn refuse(walk: &Walk<'_>, refusal: &Refusal) -> NotCanonical
+pub(crate) fn refuse(walk: &Walk<'_>, refusal: &ElementError) -> NotCanonical
     ensures { IsToldOf walk.now refusal.now result }
 {
     NotCanonical {
@@ -120,7 +120,7 @@ pub(crate) fn refuse(walk: &Walk<'_>, refusal: &Refusal) -> NotCanonical
 pub(crate) fn refuse_all(walk: &Walk<'_>) -> NotCanonical
     ensures { IsAll result }
 {
-    let refusal = Refusal {
+    let refusal = ElementError {
         offset: 0,
         step: None,
         cause: Cause::NotDer,
@@ -221,7 +221,7 @@ fn is_string(number: u32) -> bool
 }
 
 /// The error of an element that was read. A constructed one is open, so it is in the path already.
-fn refuse_element(element: &Element<'_>, cause: Cause) -> Refusal
+fn refuse_element(element: &Element<'_>, cause: Cause) -> ElementError
     ensures told { (result.offset ≡ element.now.offset) × (result.cause ≡ cause) }
     ensures step { IsStepTo (visited_of element.now) element.now.index result.step }
 {
@@ -230,7 +230,7 @@ fn refuse_element(element: &Element<'_>, cause: Cause) -> Refusal
     } else {
         Some(element.step())
     };
-    Refusal {
+    ElementError {
         offset: element.offset,
         step,
         cause,

@@ -11,7 +11,7 @@ use crate::piece::{is_in_parts, refuse};
 use crate::writer::Writer;
 use der_base::rules::Rules;
 use der_contents::{ContentError, check_content};
-use der_elements::{Cause, Element, Refusal, Walk};
+use der_elements::{Cause, Element, ElementError, Walk};
 
 /// A string of which more parts may follow.
 #[derive(Clone, Copy)]
@@ -80,7 +80,7 @@ pub(crate) fn refuse_string(octets: &[u8], broken: Broken) -> NotCanonical
     ensures offset { result.offset ≡ broken.offset }
     ensures cause { result.cause ≡ Value broken.error }
 {
-    let refusal = Refusal {
+    let refusal = ElementError {
         offset: broken.offset,
         step: None,
         cause: Cause::Value(broken.error),

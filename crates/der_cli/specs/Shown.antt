@@ -13,7 +13,7 @@ use Rattle.der_show.specs.Json.{IsJson}
 use Rattle.der_show.specs.Refused.{offset_of}
 use Rattle.der_show.specs.RefusedTexts.{IsRefusedText}
 use Rattle.der_show.specs.Unread.{IsWhyUnread}
-use Rattle.der_elements.specs.declared.refusal.Refusal.{Refusal}
+use Rattle.der_elements.specs.declared.error.ElementError.{ElementError}
 use Rattle.der_elements.specs.declared.walk.Walk.{Walk}
 use Rattle.der_elements.specs.Visits.{Extras, Visited, Visits}
 use Rattle.der_elements.specs.Walked.{IsRefused}
@@ -69,7 +69,7 @@ abbrev pub plain : Extras
 plain = record { enters_strings = false; keeps_values = false }
 
 -- the walk over the elements of an input ends at this error
-abbrev pub EndsAt : List ℕ → Refusal → Type 0
+abbrev pub EndsAt : List ℕ → ElementError → Type 0
 EndsAt i f = (vs : List Visited) × (w : Walk) × IsRefused plain Ber i vs w f
 
 -- an input is elements by BER
@@ -78,7 +78,7 @@ AreAllElements i = (vs : List Visited) × Visits plain Ber 101 0 0 i vs
 
 -- the offset of the error: that of the first element that isn't valid BER, or else that of the reader that got furthest
 abbrev pub IsErrorOffset : List ℕ → Option Unread → Option ℕ → Type 0
-IsErrorOffset i unread offset = ((f : Refusal) × EndsAt i f × (offset ≡ Some f.offset))
+IsErrorOffset i unread offset = ((f : ElementError) × EndsAt i f × (offset ≡ Some f.offset))
     ⊎ (AreAllElements i × (offset ≡ option_map (λ u. offset_of u.refused) unread))
 
 -- known octets grew by a text, or stayed if there is none

@@ -6,8 +6,8 @@ use Rattle.der_base.specs.declared.any.Any.{Any}
 use Rattle.der_base.specs.declared.error.Error.{Error as BerError}
 use Rattle.der_base.specs.Header.{number_of}
 use Rattle.der_cursor.specs.declared.cursor.Cursor.{Cursor}
-use Rattle.der_cursor.specs.declared.named.FieldRefusal.{FieldRefusal}
-use Rattle.der_cursor.specs.declared.refusal.Refusal.{Refusal}
+use Rattle.der_cursor.specs.declared.named.FieldError.{FieldError}
+use Rattle.der_cursor.specs.declared.error.ReadError.{ReadError}
 use Rattle.der_cursor.specs.Cursors.{octets_left, rules_of, ReadsAnyAt}
 use Rattle.der_cursor.specs.Named.{NamesRefusal}
 use Rattle.der_cursor.specs.Formats.{Choice, Format, Required, ReadsField, TellsNext}
@@ -16,13 +16,13 @@ use Rattle.der_cursor.proofs.Sequences.{err_named, ok_named}
 
 module _ {K V : Type 0} (F : K → Format V) {c : Cursor} where
   -- the next element is none
-  pub next_stops : {d : Cursor} {e f : Refusal BerError} → ReadsAnyAt c (Err e) d → TellsNext F c (Err f)
+  pub next_stops : {d : Cursor} {e f : ReadError BerError} → ReadsAnyAt c (Err e) d → TellsNext F c (Err f)
   next_stops {e = e} h = record {
     only = λ k w s. absurd (never _ e.reason (h.any_read.only (record { class = (F k).class; constructed = (F k).constructed; number = (F k).number; content = w.0; rest = w.1 }) s));
   }
 
   -- it is of none of the types, by its number
-  pub next_unknown : {d : Cursor} {f : Refusal BerError} (a : Any) (t : ℕ) → ReadsAnyAt c (Ok a) d → t ≡ number_of a.header → ((k : K) → (F k).number ≢ t) → TellsNext F c (Err f)
+  pub next_unknown : {d : Cursor} {f : ReadError BerError} (a : Any) (t : ℕ) → ReadsAnyAt c (Ok a) d → t ≡ number_of a.header → ((k : K) → (F k).number ≢ t) → TellsNext F c (Err f)
   next_unknown a t h q n = record {
     only = λ k w s. absurd (n k (sym (q ∙ ap (λ e. e.number) (h.any_read.only (record { class = (F k).class; constructed = (F k).constructed; number = (F k).number; content = w.0; rest = w.1 }) s))));
   }
@@ -33,12 +33,12 @@ module _ {K V : Type 0} (F : K → Format V) {c : Cursor} where
     only = λ k w s. one o k (n ∙ q ∙ ap (λ e. e.number) (h.any_read.only (record { class = (F k).class; constructed = (F k).constructed; number = (F k).number; content = w.0; rest = w.1 }) s));
   }
 
-  pub next_named : (name : Bor (List ℕ)) (x : K) {r : Result K (Refusal BerError)} → TellsNext F c r → NamesRefusal r name (Ok x) → TellsNext F c (Ok x)
+  pub next_named : (name : Bor (List ℕ)) (x : K) {r : Result K (ReadError BerError)} → TellsNext F c r → NamesRefusal r name (Ok x) → TellsNext F c (Ok x)
   next_named name x {r = r} n q = subst (λ k. TellsNext F c k) (ok_named name x r q) n
 
   -- A field that is one of the types.
-  module _ {T : Type 0} {May : FieldRefusal → Type 0} {view : T → K × V} where
-    pub no_choice : (name : Bor (List ℕ)) {new : Cursor} (f : FieldRefusal) {r : Result K (Refusal BerError)} {result : Result T FieldRefusal}
+  module _ {T : Type 0} {May : FieldError → Type 0} {view : T → K × V} where
+    pub no_choice : (name : Bor (List ℕ)) {new : Cursor} (f : FieldError) {r : Result K (ReadError BerError)} {result : Result T FieldError}
         → TellsNext F c r → NamesRefusal r name (Err f) → IsErrAnd result (λ y. y ≡ f) → ReadsField (Choice F) view May c result new
     unfolding Choice Required
     no_choice name f {r = r} {result = result} n q s fresh =

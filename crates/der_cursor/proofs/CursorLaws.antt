@@ -12,7 +12,7 @@ use Rattle.der_base.specs.Refusal.{Refusal as Name, incomplete}
 use Rattle.der_base.proofs.Answers.Answering.{passed_on}
 use Rattle.der_base.proofs.Answers.Exactness.{ShowsOne, exactly}
 use Rattle.der_cursor.specs.declared.cursor.Cursor.{Cursor}
-use Rattle.der_cursor.specs.declared.refusal.Refusal.{Refusal}
+use Rattle.der_cursor.specs.declared.error.ReadError.{ReadError}
 use Rattle.der_cursor.specs.Cursors.{octets_left, rules_of, is_inside, contents, RefusesAt, LacksAt, Finds, OpensAt}
 use Rattle.der_cursor.specs.Elements.{SpellsElement, ElementRefuses, ElementLacks}
 use Rattle.der_cursor.proofs.ElementLaws.{element_shows_one}
@@ -59,7 +59,7 @@ pub refused_outside : {T T' : Type 0} (P : T → Type 0) (P' : T' → Type 0) (Q
 refused_outside P P' Q old e i m = passed_on P P' e m (λ x h. inl h) (λ n h. (i, h)) (λ z. z)
 
 -- an element that was not found isn't opened
-pub not_opened : (c : Class) (p : Bool) (t : ℕ) (old : Cursor) (e : Refusal BerError) → Finds old c p t (Err e) → OpensAt c p t old (Err e) old
+pub not_opened : (c : Class) (p : Bool) (t : ℕ) (old : Cursor) (e : ReadError BerError) → Finds old c p t (Err e) → OpensAt c p t old (Err e) old
 not_opened c p t old e f = record {
   element = exactly (Err e.reason) (shows_one_at old (element_shows_one (rules_of old) c p t (octets_left old) contents)) (λ n l m. m)
       (passed_on _ _ e.reason f.0 (λ x h. h) (λ n h. h) (λ m. m));

@@ -6,7 +6,7 @@ use Rattle.der_base.specs.declared.error.Error.{Error as BerError}
 use Rattle.der_base.specs.declared.header.Class.{Class}
 use Rattle.der_base.specs.declared.rules.Rules.{Rules}
 use Rattle.der_cursor.specs.declared.cursor.Cursor.{Cursor}
-use Rattle.der_cursor.specs.declared.refusal.Refusal.{Refusal}
+use Rattle.der_cursor.specs.declared.error.ReadError.{ReadError}
 use Rattle.der_cursor.specs.Cursors.{octets_left, rules_of, advanced, EndsAt, OpensAt}
 use Rattle.der_cursor.specs.Formats.{AnyElement, Constructed, Content, Each, Field, Never, Only, Others, Passed, Required, ◌⨟◌, ReadsContent, ReadsField}
 use Rattle.der_cursor.proofs.FormatLaws.{element_takes, inside_of, unopened_of}
@@ -112,16 +112,16 @@ module _ {T V E : Type 0} {F : Field V} {view : T → V} {May : E → Type 0} {c
   field_stops {result = result} o h s = let y = err_from_is_err_and result s in rw (y.1, y.2) (inside_of _ o (only_stops h))
 
 -- the end of such a content is the result
-pub field_ends : {V : Type 0} {F : Field V} {view : Unit {0} → V} {May : Refusal BerError
-    → Type 0} {c : Class} {n : ℕ} {old inner inner' new : Cursor} {u : Unit {0}} (result : Result (Unit {0}) (Refusal BerError))
-    → OpensAt c true n old (Ok inner) new → ReadsField {E = Refusal BerError} F view May inner (Ok u) inner' → EndsAt inner' result
+pub field_ends : {V : Type 0} {F : Field V} {view : Unit {0} → V} {May : ReadError BerError
+    → Type 0} {c : Class} {n : ℕ} {old inner inner' new : Cursor} {u : Unit {0}} (result : Result (Unit {0}) (ReadError BerError))
+    → OpensAt c true n old (Ok inner) new → ReadsField {E = ReadError BerError} F view May inner (Ok u) inner' → EndsAt inner' result
     → ReadsField (Required (Constructed c n (Only F))) view May old result new
 field_ends (Ok x) o h q = inside_of _ o (only_read h q)
 field_ends (Err e) o h q = inside_of _ o (only_left h q.0)
 
 -- it isn't opened
-pub field_unopened : {V : Type 0} (C : Content V) {T : Type 0} {view : T → V} {May : Refusal BerError
-    → Type 0} {c : Class} {n : ℕ} {old new after : Cursor} {e : Refusal BerError} {result : Result T (Refusal BerError)}
+pub field_unopened : {V : Type 0} (C : Content V) {T : Type 0} {view : T → V} {May : ReadError BerError
+    → Type 0} {c : Class} {n : ℕ} {old new after : Cursor} {e : ReadError BerError} {result : Result T (ReadError BerError)}
     → OpensAt c true n old (Err e) after → IsErrAnd result (λ y. y ≡ e) → ReadsField (Required (Constructed c n C)) view May old result new
 field_unopened C {result = result} o s = let y = err_from_is_err_and result s in rw y.1 (unopened_of C o)
 

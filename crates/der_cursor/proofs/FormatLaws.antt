@@ -18,7 +18,7 @@ use Rattle.der_base.specs.Spelling.{end_marker}
 use Rattle.der_base.proofs.Octets.Identifiers.{identifier_same, identifier_octets}
 use Rattle.der_values.specs.Kinds.{Kind, booleans, times}
 use Rattle.der_cursor.specs.declared.cursor.Cursor.{Cursor}
-use Rattle.der_cursor.specs.declared.refusal.Refusal.{Refusal}
+use Rattle.der_cursor.specs.declared.error.ReadError.{ReadError}
 use Rattle.der_cursor.specs.Cursors.{octets_left, rules_of, advanced, class_wanted, number_wanted, IsTagged, IsNextType, SpellsValue}
 use Rattle.der_cursor.specs.Cursors.{OpensAt, OpensType, OpensTagged, ReadsValue, ReadsOptional, ReadsOr, ReadsTime, ReadsAnyAt}
 use Rattle.der_cursor.specs.Elements.{SpellsElement, BeginsWithTag, IsNext}
@@ -67,7 +67,7 @@ module _ {T V : Type 0} (value : T → V) (k : Rules → Kind V) (t : ℕ) (old 
   unfolding Required
   next v rest z = is_next _ _ _ _ _ _ z.2
 
-  value_next : {May : Refusal BerError → Type 0} (result : Result T (Refusal BerError)) → ReadsValue value (k (rules_of old)) t old result new → ReadsNext (Required asked) value May old result new
+  value_next : {May : ReadError BerError → Type 0} (result : Result T (ReadError BerError)) → ReadsValue value (k (rules_of old)) t old result new → ReadsNext (Required asked) value May old result new
   value_next (Ok x) h = record {
     found = (spelled (value x) (octets_left new) h.value_read.found, h.place);
     only = λ v rest z. let q = h.value_read.only (v, rest) (spells v rest z) in (ap (λ y. y.0) q, ap (λ y. y.1) q);
@@ -88,7 +88,7 @@ stays : (old new : Cursor) → new ≡ advanced old old.left → (octets_left ol
 stays old new q = (ap octets_left (sym q), q ∙ ap (λ l. advanced old l) (sym (ap (λ c. c.left) q)))
 
 -- a value
-pub value_read : {V : Type 0} (k : Rules → Kind V) {T : Type 0} {value : T → V} {t : ℕ} {old new : Cursor} {result : Result T (Refusal BerError)}
+pub value_read : {V : Type 0} (k : Rules → Kind V) {T : Type 0} {value : T → V} {t : ℕ} {old new : Cursor} {result : Result T (ReadError BerError)}
     → ReadsValue value (k (rules_of old)) t old result new → ReadsField (Required (Primitive t (Value k))) value Never old result new
 value_read k {value = value} {t = t} {old = old} {new = new} {result = result} h fresh =
     value_next value k t old new Universal t (ap class_wanted fresh) (ap (λ m. number_wanted m t) fresh) result h
@@ -99,14 +99,14 @@ untagged : {T V E : Type 0} {F : Field V} {view : T → V} {May : E → Type 0} 
 untagged old m h = record { found = h.found; only = h.only }
 
 -- a value under an implicit tag
-pub tagged_read : {V : Type 0} (k : Rules → Kind V) {T : Type 0} {value : T → V} {t n : ℕ} {c : Class} {old tagged new : Cursor} {result : Result T (Refusal BerError)}
+pub tagged_read : {V : Type 0} (k : Rules → Kind V) {T : Type 0} {value : T → V} {t n : ℕ} {c : Class} {old tagged new : Cursor} {result : Result T (ReadError BerError)}
     → IsTagged c n old tagged → ReadsValue value (k (rules_of tagged)) t tagged result new
     → ReadsField (Required (Tagged c n (Primitive t (Value k)))) value Never old result new
 tagged_read k {value = value} {t = t} {n = n} {c = c} {old = old} {tagged = tagged} {new = new} {result = result} q h fresh =
     untagged old (Some (c, record { 0 = n })) (subst (λ m. ReadsNext (Required (Tagged c n (Primitive t (Value k)))) value Never m result new) q
     (value_next value k t tagged new c n (ap (λ m. class_wanted m.implicit) q) (ap (λ m. number_wanted m.implicit t) q) result h))
 
-pub implicit_read : {V : Type 0} (k : Rules → Kind V) {T : Type 0} {value : T → V} {t n : ℕ} {old tagged new : Cursor} {result : Result T (Refusal BerError)}
+pub implicit_read : {V : Type 0} (k : Rules → Kind V) {T : Type 0} {value : T → V} {t n : ℕ} {old tagged new : Cursor} {result : Result T (ReadError BerError)}
     → IsTagged ContextSpecific n old tagged → ReadsValue value (k (rules_of tagged)) t tagged result new
     → ReadsField (Required (Implicit n (Primitive t (Value k)))) value Never old result new
 implicit_read k q h = tagged_read k q h
@@ -114,7 +114,7 @@ implicit_read k q h = tagged_read k q h
 -- Values that may be absent.
 module _ {T V : Type 0} (value : T → V) (k : Rules → Kind V) (t : ℕ) (old new : Cursor) (c : Class) (n : ℕ)
     (class : class_wanted old.implicit ≡ c) (number : number_wanted old.implicit t ≡ n) where
-  optional_next : {May : Refusal BerError → Type 0} (result : Result (Option T) (Refusal BerError)) → ReadsOptional value (k (rules_of old)) t old result new
+  optional_next : {May : ReadError BerError → Type 0} (result : Result (Option T) (ReadError BerError)) → ReadsOptional value (k (rules_of old)) t old result new
       → ReadsNext (Optional (asked value k t old new c n class number)) (option_map value) May old result new
   unfolding Optional
   optional_next (Ok None) h = record {
@@ -139,12 +139,12 @@ module _ {T V : Type 0} (value : T → V) (k : Rules → Kind V) (t : ℕ) (old 
     ];
   }
 
-pub optional_read : {V : Type 0} (k : Rules → Kind V) (t : ℕ) {T : Type 0} {value : T → V} {old new : Cursor} {result : Result (Option T) (Refusal BerError)}
+pub optional_read : {V : Type 0} (k : Rules → Kind V) (t : ℕ) {T : Type 0} {value : T → V} {old new : Cursor} {result : Result (Option T) (ReadError BerError)}
     → ReadsOptional value (k (rules_of old)) t old result new → ReadsField (Optional (Primitive t (Value k))) (option_map value) Never old result new
 optional_read k t {value = value} {old = old} {new = new} {result = result} h fresh =
     optional_next value k t old new Universal t (ap class_wanted fresh) (ap (λ m. number_wanted m t) fresh) result h
 
-pub implicit_optional_read : {V : Type 0} (k : Rules → Kind V) (t : ℕ) {T : Type 0} {value : T → V} {n : ℕ} {old tagged new : Cursor} {result : Result (Option T) (Refusal BerError)}
+pub implicit_optional_read : {V : Type 0} (k : Rules → Kind V) (t : ℕ) {T : Type 0} {value : T → V} {n : ℕ} {old tagged new : Cursor} {result : Result (Option T) (ReadError BerError)}
     → IsTagged ContextSpecific n old tagged → ReadsOptional value (k (rules_of tagged)) t tagged result new
     → ReadsField (Optional (Implicit n (Primitive t (Value k)))) (option_map value) Never old result new
 implicit_optional_read k t {value = value} {n = n} {old = old} {tagged = tagged} {new = new} {result = result} q h fresh =
@@ -172,7 +172,7 @@ inside_next {view = view} c p n C old inner new (Ok x) o h = let r = h o.places.
 }
 inside_next c p n C old inner new (Err e) o h = record { found = tt; only = λ v rest z. (h o.places.4).only v (the_content c p n C old inner new o v rest z).0 }
 
-unopened_next : {T V E : Type 0} {view : T → V} {May : E → Type 0} (c : Class) (p : Bool) (n : ℕ) (C : Content V) (old : Cursor) (e : Refusal BerError) (after new : Cursor) (x : E)
+unopened_next : {T V E : Type 0} {view : T → V} {May : E → Type 0} (c : Class) (p : Bool) (n : ℕ) (C : Content V) (old : Cursor) (e : ReadError BerError) (after new : Cursor) (x : E)
     → OpensAt c p n old (Err e) after → ReadsNext (Required (opened_type c p n C)) view May old (Err x) new
 unfolding Required
 unopened_next c p n C old e after new x o = record { found = tt; only = λ v rest z. absurd (never _ e.reason (o.element.only (z.0, rest) z.2)) }
@@ -184,7 +184,7 @@ inside t C {p = p} {old = old} {inner = inner} {new = new} {result = result} o h
     inside_next Universal p t C old inner new result (subst (λ m. OpensAt (class_wanted m) p (number_wanted m t) old (Ok inner) new) fresh o) h
 
 -- it isn't opened
-pub unopened : {V : Type 0} (t : ℕ) (C : Content V) {T E : Type 0} {view : T → V} {May : E → Type 0} {p : Bool} {old after new : Cursor} {e : Refusal BerError} {x : E} → OpensType p t old (Err e) after
+pub unopened : {V : Type 0} (t : ℕ) (C : Content V) {T E : Type 0} {view : T → V} {May : E → Type 0} {p : Bool} {old after new : Cursor} {e : ReadError BerError} {x : E} → OpensType p t old (Err e) after
     → ReadsField (Required (record { class = Universal; number = t; constructed = p; content = C })) view May old (Err x) new
 unopened t C {p = p} {old = old} {after = after} {new = new} {e = e} {x = x} o fresh =
     unopened_next Universal p t C old e after new x (subst (λ m. OpensAt (class_wanted m) p (number_wanted m t) old (Err e) after) fresh o)
@@ -194,7 +194,7 @@ pub inside_of : {V : Type 0} (C : Content V) {T E : Type 0} {view : T → V} {Ma
     → ReadsContent C view May inner result → ReadsField (Required (record { class = c; number = n; constructed = p; content = C })) view May old result new
 inside_of C {c = c} {p = p} {n = n} {old = old} {inner = inner} {new = new} {result = result} o h fresh = inside_next c p n C old inner new result o h
 
-pub unopened_of : {V : Type 0} (C : Content V) {T E : Type 0} {view : T → V} {May : E → Type 0} {c : Class} {p : Bool} {n : ℕ} {old after new : Cursor} {e : Refusal BerError} {x : E} → OpensAt c p n old (Err e) after
+pub unopened_of : {V : Type 0} (C : Content V) {T E : Type 0} {view : T → V} {May : E → Type 0} {c : Class} {p : Bool} {n : ℕ} {old after new : Cursor} {e : ReadError BerError} {x : E} → OpensAt c p n old (Err e) after
     → ReadsField (Required (record { class = c; number = n; constructed = p; content = C })) view May old (Err x) new
 unopened_of C {c = c} {p = p} {n = n} {old = old} {after = after} {new = new} {e = e} {x = x} o fresh = unopened_next c p n C old e after new x o
 
@@ -239,7 +239,7 @@ module _ {V : Type 0} (n : ℕ) (C : Content V) {T E : Type 0} {view : T → V} 
   }
 
 -- one that isn't opened
-pub tagged_unopened : {V : Type 0} (n : ℕ) (C : Content V) {T E : Type 0} {view : T → Option V} {May : E → Type 0} {old new after : Cursor} {e : Refusal BerError} {x : E} → OpensTagged n old (Err e) after
+pub tagged_unopened : {V : Type 0} (n : ℕ) (C : Content V) {T E : Type 0} {view : T → Option V} {May : E → Type 0} {old new after : Cursor} {e : ReadError BerError} {x : E} → OpensTagged n old (Err e) after
     → ReadsField (OptionalTagged n C) view May old (Err x) new
 unfolding OptionalTagged Required
 tagged_unopened {V = V} n C {May = May} {old = old} {new = new} {after = after} {e = e} {x = x} o fresh =
@@ -252,7 +252,7 @@ tagged_unopened {V = V} n C {May = May} {old = old} {new = new} {after = after} 
     }
 
 -- one, whose octets are kept
-pub tagged_octets : (n : ℕ) {old new : Cursor} {result : Result (Option Cursor) (Refusal BerError)} → OpensTagged n old result new
+pub tagged_octets : (n : ℕ) {old new : Cursor} {result : Result (Option Cursor) (ReadError BerError)} → OpensTagged n old result new
     → ReadsField (OptionalTagged n Octets) (option_map octets_left) Never old result new
 unfolding Octets
 tagged_octets n {result = Ok None} o fresh = tagged_absent n Octets {view = octets_left} o fresh
@@ -260,7 +260,7 @@ tagged_octets n {result = Ok (Some inner)} o fresh = tagged_inside n Octets {vie
 tagged_octets n {result = Err e} o fresh = tagged_unopened n Octets o fresh
 
 -- Any element, and one that is there if anything is left.
-pub any_read : {old new : Cursor} {result : Result Any (Refusal BerError)} → ReadsAnyAt old result new → ReadsField AnyElement element_of Never old result new
+pub any_read : {old new : Cursor} {result : Result Any (ReadError BerError)} → ReadsAnyAt old result new → ReadsField AnyElement element_of Never old result new
 unfolding AnyElement
 any_read {old = old} {new = new} {result = Ok x} h fresh = record {
   found = ((h.any_read.found, h.header), h.place);
@@ -330,7 +330,7 @@ apart_next r p n m i v d s h =
     d (identifier_same Universal Universal p h.0 n m z.0 h.1 (sym z.1 ∙ h.2)).2
 
 -- a BOOLEAN with a default
-pub boolean_or_read : (d : Bool) {old new : Cursor} {result : Result Bool (Refusal BerError)} → ReadsOr (λ v. v) (booleans (rules_of old)) 1 d old result new
+pub boolean_or_read : (d : Bool) {old new : Cursor} {result : Result Bool (ReadError BerError)} → ReadsOr (λ v. v) (booleans (rules_of old)) 1 d old result new
     → ReadsField (Default Boolean d) (λ v. v) Never old result new
 unfolding Default
 boolean_or_read d {old = old} {new = new} {result = Ok x} (inl (absent, same, moved)) fresh =
@@ -425,7 +425,7 @@ unfolding Required
 required_takes F r i v rest z = element_takes r F.class F.constructed F.number i (z.0, rest) z.2
 
 -- a type that is next and isn't opened
-pub optional_unopened : {V : Type 0} (t : ℕ) (C : Content V) {T E : Type 0} {view : T → Option V} {May : E → Type 0} {p : Bool} {old new after : Cursor} {e : Refusal BerError} {x : E}
+pub optional_unopened : {V : Type 0} (t : ℕ) (C : Content V) {T E : Type 0} {view : T → Option V} {May : E → Type 0} {p : Bool} {old new after : Cursor} {e : ReadError BerError} {x : E}
     → IsNext Universal t (octets_left old) → OpensType p t old (Err e) after → ReadsField (Optional (record { class = Universal; number = t; constructed = p; content = C })) view May old (Err x) new
 optional_unopened {V} t C {May = May} {p = p} {old = old} {new = new} q o fresh =
     is_refused (record { class = Universal; number = t; constructed = p; content = C }) {view = λ (v : V). v} {May = May} {d = new} q (unopened t C o) fresh
@@ -436,17 +436,17 @@ pub returned : {T V E : Type 0} {F : Field V} {view : T → V} {May : E → Type
 returned {F = F} {view = view} {May = May} {old = old} {result = result} h q = subst (λ c. ReadsField F view May old result c) (sym q) h
 
 -- an element of a universal type, whose octets are kept
-pub kept_read : (t : ℕ) {p : Bool} {old new : Cursor} {result : Result Cursor (Refusal BerError)} → OpensType p t old result new
+pub kept_read : (t : ℕ) {p : Bool} {old new : Cursor} {result : Result Cursor (ReadError BerError)} → OpensType p t old result new
     → ReadsField (Required (record { class = Universal; number = t; constructed = p; content = Octets })) octets_left Never old result new
 kept_read t {result = Ok inner} o = inside t Octets o (octets_kept inner)
 kept_read t {result = Err e} o = unopened t Octets o
 
 -- Times.
 module _ (old new : Cursor) (fresh : old.implicit ≡ None) where
-  utc : (x : Result ASN1DateTime (Refusal BerError)) → ReadsValue (λ v. v) (times (rules_of old) 23) 23 old x new → ReadsNext (Required UtcTime) (λ v. v) Never old x new
+  utc : (x : Result ASN1DateTime (ReadError BerError)) → ReadsValue (λ v. v) (times (rules_of old) 23) 23 old x new → ReadsNext (Required UtcTime) (λ v. v) Never old x new
   utc x h = value_read (λ r. times r 23) h fresh
 
-  generalized : (x : Result ASN1DateTime (Refusal BerError)) → ReadsValue (λ v. v) (times (rules_of old) 24) 24 old x new → ReadsNext (Required GeneralizedTime) (λ v. v) Never old x new
+  generalized : (x : Result ASN1DateTime (ReadError BerError)) → ReadsValue (λ v. v) (times (rules_of old) 24) 24 old x new → ReadsNext (Required GeneralizedTime) (λ v. v) Never old x new
   generalized x h = value_read (λ r. times r 24) h fresh
 
   next_24 : IsNextType 24 old → IsNext Universal 24 (octets_left old)
@@ -463,7 +463,7 @@ module _ (old new : Cursor) (fresh : old.implicit ≡ None) where
   unfolding Required
   is_24 v rest z = is_next _ _ _ _ _ _ z.2
 
-  time_next : (x : Result ASN1DateTime (Refusal BerError)) → ReadsTime old x new → ReadsNext Time (λ v. v) Never old x new
+  time_next : (x : Result ASN1DateTime (ReadError BerError)) → ReadsTime old x new → ReadsNext Time (λ v. v) Never old x new
   unfolding Time
   time_next (Ok x) (inl (n, h)) = let r = generalized (Ok x) h in record {
     found = (inr r.found.0, r.found.1);
@@ -482,7 +482,7 @@ module _ (old new : Cursor) (fresh : old.implicit ≡ None) where
     only = λ v rest z. elim z [ inl y ↦ r.only v rest y | inr y ↦ absurd (n (to_24 (is_24 v rest y))) ];
   }
 
-pub time_read : {old new : Cursor} {result : Result ASN1DateTime (Refusal BerError)} → ReadsTime old result new → ReadsField Time (λ v. v) Never old result new
+pub time_read : {old new : Cursor} {result : Result ASN1DateTime (ReadError BerError)} → ReadsTime old result new → ReadsField Time (λ v. v) Never old result new
 time_read {old = old} {new = new} {result = result} h fresh = time_next old new fresh result h
 
 -- a time that may be absent, which was looked for

@@ -5,7 +5,7 @@ use Rattle.std.specs.Global.{Vec}
 use Rattle.der_base.specs.declared.error.ErrorKind.{ErrorKind}
 use Rattle.der_base.specs.declared.rules.Rules.{Rules}
 use Rattle.der_cursor.specs.declared.cursor.Cursor.{Cursor}
-use Rattle.der_cursor.specs.declared.refusal.Refusal.{Refusal}
+use Rattle.der_cursor.specs.declared.error.ReadError.{ReadError}
 use Rattle.der_cursor.specs.Cursors.{octets_left, rules_of}
 use Rattle.der_cursor.specs.Runs.{CallsAt, Calls, no_call, one_more, StopsAt, refused, stuck, no_room, ReadsAll, values_of}
 use Rattle.der_cursor.specs.Formats.{Field, Each, NoMemory, ReadsNext, ReadsField, ReadsContent}
@@ -18,11 +18,11 @@ joined view (w ∷ ws) v us = ap (λ y. view w ∷ y) (joined view ws v us)
 abbrev pub TakesOctets : {V : Type 0} → Field V → Type 0
 TakesOctets {V} G = (r : Rules) (i : List ℕ) (v : V) (rest : List ℕ) → G r i v rest → length rest < length i
 
-module _ {F O E V : Type 0} {step : F → MutBor Cursor → Result O (Refusal E) → MutBor Cursor → F → Type 0} (G : Field V) (view : O → V)
+module _ {F O E V : Type 0} {step : F → MutBor Cursor → Result O (ReadError E) → MutBor Cursor → F → Type 0} (G : Field V) (view : O → V)
     (takes : TakesOctets G)
-    (reads : (f g : F) (a b : MutBor Cursor) (r : Result O (Refusal E)) → step f a r b g → ReadsField G view NoMemory a.now r b.now) where
+    (reads : (f g : F) (a b : MutBor Cursor) (r : Result O (ReadError E)) → step f a r b g → ReadsField G view NoMemory a.now r b.now) where
   -- a call, at the cursors where it was made
-  call_reads : (f g : F) (b d : Cursor) (r : Result O (Refusal E)) → CallsAt step f b r d g → ReadsField G view NoMemory b r d
+  call_reads : (f g : F) (b d : Cursor) (r : Result O (ReadError E)) → CallsAt step f b r d g → ReadsField G view NoMemory b r d
   call_reads f g b d r (x, y, s, p, q) = subst (λ k. ReadsField G view NoMemory k r d) p (subst (λ k. ReadsField G view NoMemory x.now r k) q (reads f g x y r s))
 
   none_more : (r : Rules) (w : List ℕ) (us : List V) → w ≡ [] → Each G r w us → us ≡ []
@@ -67,7 +67,7 @@ module _ {F O E V : Type 0} {step : F → MutBor Cursor → Result O (Refusal E)
       }
 
   -- where the run ends without the values
-  stopped : (gives : Bor (List ℕ) → ErrorKind → E → Type 0) (f m : F) (c b : Cursor) (vs : List O) (e : Refusal E) → SoFar c b vs → octets_left b ≢ [] → StopsAt step gives m b e → (us : List V) → Each G (rules_of c) (octets_left c) us → NoMemory e
+  stopped : (gives : Bor (List ℕ) → ErrorKind → E → Type 0) (f m : F) (c b : Cursor) (vs : List O) (e : ReadError E) → SoFar c b vs → octets_left b ≢ [] → StopsAt step gives m b e → (us : List V) → Each G (rules_of c) (octets_left c) us → NoMemory e
   stopped gives f m c b vs e s n (refused {g = g} {d = d} h) us z =
       let y = s.only us z in
       let t = some_more _ _ y.0 n y.1 in
@@ -80,7 +80,7 @@ module _ {F O E V : Type 0} {step : F → MutBor Cursor → Result O (Refusal E)
       absurd (omega (arith, less, k, ap length q.1))
   stopped gives f m c b vs e s n (no_room h) us z = refl
 
-  pub all_read : (gives : Bor (List ℕ) → ErrorKind → E → Type 0) (f : F) (c : Cursor) (result : Result (Vec O) (Refusal E)) → ReadsAll step gives f c (values_of result) → ReadsContent (Each G) (λ v. map view v.items) NoMemory c result
+  pub all_read : (gives : Bor (List ℕ) → ErrorKind → E → Type 0) (f : F) (c : Cursor) (result : Result (Vec O) (ReadError E)) → ReadsAll step gives f c (values_of result) → ReadsContent (Each G) (λ v. map view v.items) NoMemory c result
   unfolding Each
   all_read gives f c (Ok vs) (g, d, l, q) fresh = let s = so_far f c g d vs.items fresh l in record {
     found = subst (λ y. Each G (rules_of c) (octets_left c) y) (append-nil (map view vs.items)) (s.back [] q);

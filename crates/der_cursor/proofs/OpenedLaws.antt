@@ -6,8 +6,8 @@ use Rattle.der_base.specs.declared.error.Error.{Error as BerError}
 use Rattle.der_base.specs.declared.header.Class.{Class}
 use Rattle.der_base.specs.declared.rules.Rules.{Rules}
 use Rattle.der_cursor.specs.declared.cursor.Cursor.{Cursor}
-use Rattle.der_cursor.specs.declared.named.FieldRefusal.{FieldRefusal}
-use Rattle.der_cursor.specs.declared.refusal.Refusal.{Refusal}
+use Rattle.der_cursor.specs.declared.named.FieldError.{FieldError}
+use Rattle.der_cursor.specs.declared.error.ReadError.{ReadError}
 use Rattle.der_cursor.specs.Cursors.{octets_left, rules_of, OpensAt, OpensType}
 use Rattle.der_cursor.specs.Named.{NamesRefusal}
 use Rattle.der_cursor.specs.Formats.{Constructed, Content, Never, Octets, Only, Opens, Required, Sequence, ReadsContent}
@@ -53,17 +53,17 @@ module _ {V : Type 0} {K : Content V} {O : Content (List ℕ)} {C : Content V} (
             r.only v (subst (λ y. C y (octets_left inner) v) (sym o.by.0) (subst (λ u. C (rules_of c) u v) (sym (k.only z.0 z.1)) z.2));
       }
 
-  pub not_within : {T E : Type 0} {view : T → V} {May : E → Type 0} {e : Refusal BerError} (x : E) {result : Result T E} → Opens O c (Err e) → IsErrAnd result (λ y. y ≡ x)
+  pub not_within : {T E : Type 0} {view : T → V} {May : E → Type 0} {e : ReadError BerError} (x : E) {result : Result T E} → Opens O c (Err e) → IsErrAnd result (λ y. y ≡ x)
       → ReadsContent K view May c result
   not_within x {result = result} o n fresh = let y = err_from_is_err_and result n in rw y.1 (record { found = tt; only = λ v p. let z = s.apart _ _ v p in absurd ((o.octets fresh).only z.0 z.1) })
 
   -- with the name of the field
-  pub within_named : {T E : Type 0} {view : T → V} {May : E → Type 0} (name : Bor (List ℕ)) (inner : Cursor) {r : Result Cursor (Refusal BerError)} (result : Result T E) → Opens O c r
+  pub within_named : {T E : Type 0} {view : T → V} {May : E → Type 0} (name : Bor (List ℕ)) (inner : Cursor) {r : Result Cursor (ReadError BerError)} (result : Result T E) → Opens O c r
       → NamesRefusal r name (Ok inner)
       → ReadsContent C view May inner result → ReadsContent K view May c result
   within_named name inner {r = r} result o n h = within result (subst (λ x. Opens O c x) (ok_named name inner r n) o) h
 
-  pub not_within_named : {T : Type 0} {view : T → V} {May : FieldRefusal → Type 0} (name : Bor (List ℕ)) (f : FieldRefusal) {r : Result Cursor (Refusal BerError)} {result : Result T FieldRefusal}
+  pub not_within_named : {T : Type 0} {view : T → V} {May : FieldError → Type 0} (name : Bor (List ℕ)) (f : FieldError) {r : Result Cursor (ReadError BerError)} {result : Result T FieldError}
       → Opens O c r
       → NamesRefusal r name (Err f) → IsErrAnd result (λ y. y ≡ f) → ReadsContent K view May c result
   not_within_named name f {r = r} o n q = let e = err_named name f r n in not_within f (subst (λ x. Opens O c x) e.1 o) q
@@ -76,7 +76,7 @@ module _ {V : Type 0} (C : Content V) {class : Class} {n : ℕ} {old inner new :
   opened_left o q fresh = record { found = tt; only = λ v z. absurd (q (ap (λ y. y.1) (o.element.only (z.0, []) z.2))) }
 
 module _ {class : Class} {n : ℕ} {O : Content (List ℕ)} {old inner new : Cursor} where
-  pub opens_in : (result : Result Cursor (Refusal BerError)) → OpensAt class true n old (Ok inner) new → octets_left new ≡ [] → Opens O inner result
+  pub opens_in : (result : Result Cursor (ReadError BerError)) → OpensAt class true n old (Ok inner) new → octets_left new ≡ [] → Opens O inner result
       → Opens (Only (Required (Constructed class n O))) old result
   opens_in (Ok d) o q h = record {
     octets = only_read (inside_of _ o h.octets) q;
@@ -84,12 +84,12 @@ module _ {class : Class} {n : ℕ} {O : Content (List ℕ)} {old inner new : Cur
   }
   opens_in (Err e) o q h = record { octets = only_stops (inside_of _ {new = new} o h.octets); by = tt }
 
-pub not_opened : {V : Type 0} (C : Content V) {T E : Type 0} {view : T → V} {May : E → Type 0} {class : Class} {n : ℕ} {old after : Cursor} {e : Refusal BerError} {x : E}
+pub not_opened : {V : Type 0} (C : Content V) {T E : Type 0} {view : T → V} {May : E → Type 0} {class : Class} {n : ℕ} {old after : Cursor} {e : ReadError BerError} {x : E}
     → OpensAt class true n old (Err e) after
     → ReadsContent (Only (Required (Constructed class n C))) view May old (Err x)
 not_opened C {view = view} {May = May} {after = after} o = only_stops (unopened_of C {view = view} {May = May} {new = after} o)
 
-pub opens_nothing : {C : Content (List ℕ)} {c : Cursor} {e : Refusal BerError} {result : Result Cursor (Refusal BerError)} → ReadsContent C octets_left Never c (Err e)
+pub opens_nothing : {C : Content (List ℕ)} {c : Cursor} {e : ReadError BerError} {result : Result Cursor (ReadError BerError)} → ReadsContent C octets_left Never c (Err e)
     → IsErrAnd result (λ y. y ≡ e) → Opens C c result
 opens_nothing {result = result} h s = let y = err_from_is_err_and result s in rw (y.1, y.2) (record { octets = h; by = tt })
 

@@ -8,8 +8,8 @@ use Rattle.der_base.specs.declared.rules.Rules.{Rules}
 use Rattle.der_base.specs.declared.header.Class.{Class}
 use Rattle.der_base.specs.declared.header.Class.TheVariants.{Universal}
 use Rattle.der_cursor.specs.declared.cursor.Cursor.{Cursor}
-use Rattle.der_cursor.specs.declared.named.FieldRefusal.{FieldRefusal}
-use Rattle.der_cursor.specs.declared.refusal.Refusal.{Refusal}
+use Rattle.der_cursor.specs.declared.named.FieldError.{FieldError}
+use Rattle.der_cursor.specs.declared.error.ReadError.{ReadError}
 use Rattle.der_cursor.specs.Cursors.{octets_left, rules_of, StartsAt, EndsAt, OpensAt, OpensType}
 use Rattle.der_cursor.specs.Named.{NamesRefusal, NamesMore}
 use Rattle.der_cursor.proofs.FormatLaws.{inside, inside_of, unopened, unopened_of}
@@ -30,25 +30,25 @@ whole_passes (Ok x) s p h = rw p.passed (record { found = h.found; only = h.only
 whole_passes (Err e) s p h = rw p.passed.1 (record { found = tt; only = λ v z. p.passed.2 (h.only v z) })
 
 -- A refusal is given a name, or one name more.
-module _ {T : Type 0} {May : Refusal BerError → Type 0} {May' : FieldRefusal → Type 0} (more : (e : Refusal BerError) (f : FieldRefusal) → f.refusal ≡ e → May e → May' f) where
-  name_passes : (name : Bor (List ℕ)) (r : Result T (Refusal BerError)) (s : Result T FieldRefusal) → NamesRefusal r name s → Passes May May' r s
+module _ {T : Type 0} {May : ReadError BerError → Type 0} {May' : FieldError → Type 0} (more : (e : ReadError BerError) (f : FieldError) → f.refusal ≡ e → May e → May' f) where
+  name_passes : (name : Bor (List ℕ)) (r : Result T (ReadError BerError)) (s : Result T FieldError) → NamesRefusal r name s → Passes May May' r s
   name_passes name (Ok x) s h = record { passed = h }
   name_passes name (Err e) s h = let q = err_from_is_err_and s h in record { passed = (q.0, q.1, more e q.0 q.2.0) }
 
-module _ {T : Type 0} {May May' : FieldRefusal → Type 0} (more : (e f : FieldRefusal) → f.refusal ≡ e.refusal → May e → May' f) where
-  more_passes : (name : Bor (List ℕ)) (r s : Result T FieldRefusal) → NamesMore r name s → Passes May May' r s
+module _ {T : Type 0} {May May' : FieldError → Type 0} (more : (e f : FieldError) → f.refusal ≡ e.refusal → May e → May' f) where
+  more_passes : (name : Bor (List ℕ)) (r s : Result T FieldError) → NamesMore r name s → Passes May May' r s
   more_passes name (Ok x) s h = record { passed = h }
   more_passes name (Err e) s h = let q = err_from_is_err_and s h in record { passed = (q.0, q.1, more e q.0 q.2.0) }
 
-memory_named : (e : Refusal BerError) (f : FieldRefusal) → f.refusal ≡ e → NoMemory e → NoMemoryIn f
+memory_named : (e : ReadError BerError) (f : FieldError) → f.refusal ≡ e → NoMemory e → NoMemoryIn f
 memory_named e f q m = ap (λ x. x.reason) q ∙ m
 
 -- a field that was read without memory, and one that may need it
-pub named : (name : Bor (List ℕ)) {T V : Type 0} {F : Field V} {view : T → V} {old new : Cursor} {r : Result T (Refusal BerError)} {s : Result T FieldRefusal}
+pub named : (name : Bor (List ℕ)) {T V : Type 0} {F : Field V} {view : T → V} {old new : Cursor} {r : Result T (ReadError BerError)} {s : Result T FieldError}
     → ReadsField F view Never old r new → NamesRefusal r name s → ReadsField F view Never old s new
 named name {r = r} {s = s} h n fresh = field_passes r s (name_passes (λ e f q m. m) name r s n) (h fresh)
 
-pub named_in : (name : Bor (List ℕ)) {T V : Type 0} {F : Field V} {view : T → V} {old new : Cursor} {r : Result T (Refusal BerError)} {s : Result T FieldRefusal}
+pub named_in : (name : Bor (List ℕ)) {T V : Type 0} {F : Field V} {view : T → V} {old new : Cursor} {r : Result T (ReadError BerError)} {s : Result T FieldError}
     → ReadsField F view NoMemory old r new → NamesRefusal r name s → ReadsField F view NoMemoryIn old s new
 named_in name {r = r} {s = s} h n fresh = field_passes r s (name_passes memory_named name r s n) (h fresh)
 
@@ -97,14 +97,14 @@ stops_never C {result = result} l h q =
     rw (z.1, z.2) (record { found = tt; only = λ v p. let y = l.only v p in absurd ((h l.fresh).only y.0.0 y.1.0 y.1.1) })
 
 -- what ends a content: `EndsAt`, by the octets that are left and the refusal of these
-abbrev pub EndsBy : List ℕ → Refusal BerError → Result (Unit {0}) (Refusal BerError) → Type 0
+abbrev pub EndsBy : List ℕ → ReadError BerError → Result (Unit {0}) (ReadError BerError) → Type 0
 EndsBy w x (Ok u) = w ≡ []
 EndsBy w x (Err e) = (w ≢ []) × (e ≡ x)
 
 abbrev pub Ends : {E : Type 0} → List ℕ → Result (Unit {0}) E → Type 0
 Ends w r = MatchResult r (λ u. w ≡ []) (λ e. w ≢ [])
 
-pub ends_named : (name : Bor (List ℕ)) (w : List ℕ) (x : Refusal BerError) (r : Result (Unit {0}) (Refusal BerError)) (s : Result (Unit {0}) FieldRefusal) → EndsBy w x r → NamesRefusal r name s → Ends w s
+pub ends_named : (name : Bor (List ℕ)) (w : List ℕ) (x : ReadError BerError) (r : Result (Unit {0}) (ReadError BerError)) (s : Result (Unit {0}) FieldError) → EndsBy w x r → NamesRefusal r name s → Ends w s
 ends_named name w x (Ok u) s h n = rw n h
 ends_named name w x (Err e) s h n = let q = err_from_is_err_and s n in rw q.1 h.0
 
@@ -162,21 +162,21 @@ module _ {T V E : Type 0} {F : Field V} {view : T → V} {May : E → Type 0} {r
       rw (y.1, y.2) (record { found = tt; only = λ v p. (h s.4).only v.0 v.1 (to_input F r i c s v.0 v.1 p) })
 
 -- Elements that are opened, with the name of their field.
-pub ok_named : {T : Type 0} (name : Bor (List ℕ)) (x : T) (r : Result T (Refusal BerError)) → NamesRefusal r name (Ok x) → r ≡ Ok x
-ok_named {T} name x (Ok y) n = let q : ◌≡◌ {A = Result T FieldRefusal} (Ok x) (Ok y) = n in let e : x ≡ y = cc in ap Ok (sym e)
+pub ok_named : {T : Type 0} (name : Bor (List ℕ)) (x : T) (r : Result T (ReadError BerError)) → NamesRefusal r name (Ok x) → r ≡ Ok x
+ok_named {T} name x (Ok y) n = let q : ◌≡◌ {A = Result T FieldError} (Ok x) (Ok y) = n in let e : x ≡ y = cc in ap Ok (sym e)
 ok_named name x (Err e) n = absurd n
 
-pub err_named : {T : Type 0} (name : Bor (List ℕ)) (f : FieldRefusal) (r : Result T (Refusal BerError)) → NamesRefusal r name (Err f) → (e : Refusal BerError) × (r ≡ Err e)
-err_named {T} name f (Ok y) n = let q : ◌≡◌ {A = Result T FieldRefusal} (Err f) (Ok y) = n in absurd cc
+pub err_named : {T : Type 0} (name : Bor (List ℕ)) (f : FieldError) (r : Result T (ReadError BerError)) → NamesRefusal r name (Err f) → (e : ReadError BerError) × (r ≡ Err e)
+err_named {T} name f (Ok y) n = let q : ◌≡◌ {A = Result T FieldError} (Err f) (Ok y) = n in absurd cc
 err_named name f (Err e) n = (e, refl)
 
-pub inside_named : {V : Type 0} (t : ℕ) (C : Content V) (name : Bor (List ℕ)) (inner : Cursor) {T E : Type 0} {view : T → V} {May : E → Type 0} {p : Bool} {old new : Cursor} {r : Result Cursor (Refusal BerError)} {result : Result T E}
+pub inside_named : {V : Type 0} (t : ℕ) (C : Content V) (name : Bor (List ℕ)) (inner : Cursor) {T E : Type 0} {view : T → V} {May : E → Type 0} {p : Bool} {old new : Cursor} {r : Result Cursor (ReadError BerError)} {result : Result T E}
     → OpensType p t old r new → NamesRefusal r name (Ok inner) → ReadsContent C view May inner result
     → ReadsField (Required (record { class = Universal; number = t; constructed = p; content = C })) view May old result new
 inside_named t C name inner {p = p} {old = old} {new = new} {r = r} o n h = inside t C (subst (λ x. OpensType p t old x new) (ok_named name inner r n) o) h
 
-pub unopened_named : {V : Type 0} (t : ℕ) (C : Content V) (name : Bor (List ℕ)) {T : Type 0} {view : T → V} {May : FieldRefusal → Type 0} {p : Bool} {old new after : Cursor} (f : FieldRefusal)
-    {r : Result Cursor (Refusal BerError)} {result : Result T FieldRefusal} → OpensType p t old r after → NamesRefusal r name (Err f) → IsErrAnd result (λ y. y ≡ f)
+pub unopened_named : {V : Type 0} (t : ℕ) (C : Content V) (name : Bor (List ℕ)) {T : Type 0} {view : T → V} {May : FieldError → Type 0} {p : Bool} {old new after : Cursor} (f : FieldError)
+    {r : Result Cursor (ReadError BerError)} {result : Result T FieldError} → OpensType p t old r after → NamesRefusal r name (Err f) → IsErrAnd result (λ y. y ≡ f)
     → ReadsField (Required (record { class = Universal; number = t; constructed = p; content = C })) view May old result new
 unopened_named t C name {p = p} {old = old} {after = after} f {r = r} {result = result} o n q =
     let e = err_named name f r n in
@@ -184,14 +184,14 @@ unopened_named t C name {p = p} {old = old} {after = after} f {r = r} {result = 
     rw y.1 (unopened t C (subst (λ x. OpensType p t old x after) e.1 o))
 
 -- the same of one of any class, whose number is another expression
-pub inside_of_named : {V : Type 0} (n : ℕ) (C : Content V) (name : Bor (List ℕ)) (inner : Cursor) {T E : Type 0} {view : T → V} {May : E → Type 0} {c : Class} {p : Bool} {m : ℕ} {old new : Cursor} {r : Result Cursor (Refusal BerError)} {result : Result T E}
+pub inside_of_named : {V : Type 0} (n : ℕ) (C : Content V) (name : Bor (List ℕ)) (inner : Cursor) {T E : Type 0} {view : T → V} {May : E → Type 0} {c : Class} {p : Bool} {m : ℕ} {old new : Cursor} {r : Result Cursor (ReadError BerError)} {result : Result T E}
     → m ≡ n → OpensAt c p m old r new → NamesRefusal r name (Ok inner) → ReadsContent C view May inner result
     → ReadsField (Required (record { class = c; number = n; constructed = p; content = C })) view May old result new
 inside_of_named n C name inner {c = c} {p = p} {m = m} {old = old} {new = new} {r = r} q o s h =
     inside_of C (subst (λ k. OpensAt c p k old (Ok inner) new) q (subst (λ x. OpensAt c p m old x new) (ok_named name inner r s) o)) h
 
-pub unopened_of_named : {V : Type 0} (n : ℕ) (C : Content V) (name : Bor (List ℕ)) {T : Type 0} {view : T → V} {May : FieldRefusal → Type 0} {c : Class} {p : Bool} {m : ℕ} {old after new : Cursor} (f : FieldRefusal)
-    {r : Result Cursor (Refusal BerError)} {result : Result T FieldRefusal} → m ≡ n → OpensAt c p m old r after → NamesRefusal r name (Err f) → IsErrAnd result (λ y. y ≡ f)
+pub unopened_of_named : {V : Type 0} (n : ℕ) (C : Content V) (name : Bor (List ℕ)) {T : Type 0} {view : T → V} {May : FieldError → Type 0} {c : Class} {p : Bool} {m : ℕ} {old after new : Cursor} (f : FieldError)
+    {r : Result Cursor (ReadError BerError)} {result : Result T FieldError} → m ≡ n → OpensAt c p m old r after → NamesRefusal r name (Err f) → IsErrAnd result (λ y. y ≡ f)
     → ReadsField (Required (record { class = c; number = n; constructed = p; content = C })) view May old result new
 unopened_of_named n C name {c = c} {p = p} {m = m} {old = old} {after = after} f {r = r} {result = result} q o s x =
     let e = err_named name f r s in
@@ -205,7 +205,7 @@ unfolding End
 left_over e {result = result} l q n = let y = err_from_is_err_and result n in rw y.1 (record { found = tt; only = λ v p. absurd (q (l.only v p).1) })
 
 -- an element that isn't opened, and its refusal is returned
-pub refused_open : {V : Type 0} (t : ℕ) (C : Content V) {T : Type 0} {view : T → V} {May : Refusal BerError → Type 0} {p : Bool} {old new after : Cursor} {e : Refusal BerError} {result : Result T (Refusal BerError)}
+pub refused_open : {V : Type 0} (t : ℕ) (C : Content V) {T : Type 0} {view : T → V} {May : ReadError BerError → Type 0} {p : Bool} {old new after : Cursor} {e : ReadError BerError} {result : Result T (ReadError BerError)}
     → OpensType p t old (Err e) after → IsErrAnd result (λ y. y ≡ e) → ReadsField (Required (record { class = Universal; number = t; constructed = p; content = C })) view May old result new
 refused_open t C {result = result} o n = let y = err_from_is_err_and result n in rw y.1 (unopened t C o)
 
@@ -250,21 +250,21 @@ first_read F {d = d} (Ok x) h fresh = let r = h fresh in record {
 first_read F (Err e) h fresh = let r = h fresh in record { found = tt; only = λ v z. r.only v.0 z.0 z.1 }
 
 -- a content whose reader names its fields, with one name more
-pub content_named : {V : Type 0} (name : Bor (List ℕ)) (C : Content V) (c : Cursor) {T : Type 0} {view : T → V} {r s : Result T FieldRefusal} → ReadsContent C view NoMemoryIn c r → NamesMore r name s
+pub content_named : {V : Type 0} (name : Bor (List ℕ)) (C : Content V) (c : Cursor) {T : Type 0} {view : T → V} {r s : Result T FieldError} → ReadsContent C view NoMemoryIn c r → NamesMore r name s
     → ReadsContent C view NoMemoryIn c s
 content_named name C c {r = r} {s = s} h n fresh = whole_passes r s (more_passes (λ e f q m. ap (λ x. x.reason) q ∙ m) name r s n) (h fresh)
 
 -- a content that is read without memory, and one that may need it, with the name of the field
-pub content_first_named : {V : Type 0} (name : Bor (List ℕ)) (C : Content V) (c : Cursor) {T : Type 0} {view : T → V} {May : FieldRefusal → Type 0} {r : Result T (Refusal BerError)} {s : Result T FieldRefusal}
+pub content_first_named : {V : Type 0} (name : Bor (List ℕ)) (C : Content V) (c : Cursor) {T : Type 0} {view : T → V} {May : FieldError → Type 0} {r : Result T (ReadError BerError)} {s : Result T FieldError}
     → ReadsContent C view Never c r → NamesRefusal r name s → ReadsContent C view May c s
 content_first_named name C c {r = r} {s = s} h n fresh = whole_passes r s (name_passes (λ e f q m. absurd m) name r s n) (h fresh)
 
-pub content_named_in : {V : Type 0} (name : Bor (List ℕ)) (C : Content V) (c : Cursor) {T : Type 0} {view : T → V} {r : Result T (Refusal BerError)} {s : Result T FieldRefusal}
+pub content_named_in : {V : Type 0} (name : Bor (List ℕ)) (C : Content V) (c : Cursor) {T : Type 0} {view : T → V} {r : Result T (ReadError BerError)} {s : Result T FieldError}
     → ReadsContent C view NoMemory c r → NamesRefusal r name s → ReadsContent C view NoMemoryIn c s
 content_named_in name C c {r = r} {s = s} h n fresh = whole_passes r s (name_passes memory_named name r s n) (h fresh)
 
 -- a field whose reader names its fields, with one name more
-pub named_more : (name : Bor (List ℕ)) {T V : Type 0} {F : Field V} {view : T → V} {old new : Cursor} {r s : Result T FieldRefusal} → ReadsField F view NoMemoryIn old r new → NamesMore r name s
+pub named_more : (name : Bor (List ℕ)) {T V : Type 0} {F : Field V} {view : T → V} {old new : Cursor} {r s : Result T FieldError} → ReadsField F view NoMemoryIn old r new → NamesMore r name s
     → ReadsField F view NoMemoryIn old s new
 named_more name {r = r} {s = s} h n fresh = field_passes r s (more_passes (λ e f q m. ap (λ x. x.reason) q ∙ m) name r s n) (h fresh)
 
@@ -288,7 +288,7 @@ rest_read (Ok x) q l h = finish_with l h (q x)
 rest_read (Err e) q l h = let r = h l.fresh in record { found = tt; only = λ v p. let z = l.only v p in r.only z.0 z.1 }
 
 -- the end of the content is the result
-pub ends : {V : Type 0} {P : V → Type 0} {c : Cursor} {build : Unit {0} → V} {view : Unit {0} → V} {May : Refusal BerError → Type 0} (result : Result (Unit {0}) (Refusal BerError)) → view tt ≡ build tt → Remains P End c build
+pub ends : {V : Type 0} {P : V → Type 0} {c : Cursor} {build : Unit {0} → V} {view : Unit {0} → V} {May : ReadError BerError → Type 0} (result : Result (Unit {0}) (ReadError BerError)) → view tt ≡ build tt → Remains P End c build
     → EndsAt c result → ReadsWhole P view May result
 ends (Ok u) q l h = finish l h q
 ends (Err e) q l h = not_finished l h.0

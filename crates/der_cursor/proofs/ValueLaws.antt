@@ -10,7 +10,7 @@ use Rattle.der_base.proofs.Answers.Exactness.{ShowsOne, exactly}
 use Rattle.der_base.proofs.Leaves.Refusals.{first_refusal_once, none_refuses}
 use Rattle.der_values.specs.Kinds.{Kind, Decodes}
 use Rattle.der_cursor.specs.declared.cursor.Cursor.{Cursor}
-use Rattle.der_cursor.specs.declared.refusal.Refusal.{Refusal}
+use Rattle.der_cursor.specs.declared.error.ReadError.{ReadError}
 use Rattle.der_cursor.specs.Cursors.{octets_left, rules_of, class_wanted, number_wanted, RefusesAt, FindsPrimitive, Takes}
 use Rattle.der_cursor.specs.Cursors.{SpellsValue, ValueRefuses, value_left, ReadsValue}
 use Rattle.der_cursor.specs.Elements.{SpellsElement, ElementRefuses, ElementLacks}
@@ -66,14 +66,14 @@ module _ {T V : Type 0} (value : T → V) (k : Kind V) (t : ℕ) (one : HasOneVa
   at_element e (inr b) = inr b
 
   -- where no element of the type was found
-  pub value_refused : (e : Refusal BerError) → FindsPrimitive t old (Err e) → ReadsValue value k t old (Err e) old
+  pub value_refused : (e : ReadError BerError) → FindsPrimitive t old (Err e) → ReadsValue value k t old (Err e) old
   value_refused e f = record {
     value_read = exactly (Err e.reason) (shows_one_at old value_shows_one) (λ n l m. m) (passed_on _ _ e.reason f.0 (λ x h. at_element x h) (λ n h. h) (λ m. m));
     place = (f.1, refl);
   }
 
   -- where one was found
-  pub value_taken : (rest octets : Bor (List ℕ)) (found : Result T BerError) (result : Result T (Refusal BerError)) (new : Cursor) → FindsPrimitive t old (Ok (rest, octets))
+  pub value_taken : (rest octets : Bor (List ℕ)) (found : Result T BerError) (result : Result T (ReadError BerError)) (new : Cursor) → FindsPrimitive t old (Ok (rest, octets))
       → Decodes value k octets.now found → Takes old rest found result new → ReadsValue value k t old result new
   value_taken rest octets (Ok x) result new f d h = rw (h.0, h.1) (record {
     value_read = exactly (Ok (x, _)) (shows_one_at old value_shows_one) (λ n l m. m) (octets.now, d.0, d.1, f.0);

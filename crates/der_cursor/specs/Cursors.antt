@@ -31,7 +31,7 @@ use Rattle.der_base.specs.Octets.{class_number}
 use Rattle.der_base.specs.Refusal.{Refusal as Name, incomplete}
 use Rattle.der_cursor.specs.declared.cursor.Cursor.{Cursor}
 use Rattle.der_cursor.specs.declared.cursor.Found.{Found}
-use Rattle.der_cursor.specs.declared.refusal.Refusal.{Refusal}
+use Rattle.der_cursor.specs.declared.error.ReadError.{ReadError}
 use Rattle.der_values.specs.Kinds.{Kind, times}
 use Rattle.der_cursor.specs.Elements.{SpellsElement, ElementRefuses, ElementLacks, NoElement, BeginsWithTag, IsNext}
 use Rattle.der_cursor.specs.Elements.{MarkerFollows, SpellsLeading, leading, HasHeader, element_of}
@@ -87,7 +87,7 @@ abbrev pub list_end_of : Cursor → Option ℕ
 list_end_of c = list_end (is_inside c) (end_of c)
 
 -- the refusal of the next element
-abbrev pub refusal_at : {E : Type 0} → Cursor → Refused E → Refusal E
+abbrev pub refusal_at : {E : Type 0} → Cursor → Refused E → ReadError E
 refusal_at c reason = record { offset = place_of c; list_end = list_end_of c; reason = reason }
 
 -- the octets that are left are in the input i, and the place is the number of those before them
@@ -99,32 +99,32 @@ pub record StandsIn (i : List ℕ) (c : Cursor) : Type 0 where
 
 -- What a parser returns on the octets left: its value, and then they are what it left, or its refusal at the place
 -- where it was called, and then the cursor stays. `gives` says what it may return.
-abbrev pub Reads : {O E : Type 0} → (Bor (List ℕ) → Answered O E → Type 0) → Cursor → Result O (Refusal E) → Cursor
+abbrev pub Reads : {O E : Type 0} → (Bor (List ℕ) → Answered O E → Type 0) → Cursor → Result O (ReadError E) → Cursor
     → Type 0
 Reads gives old (Ok v) new = (rest : Bor (List ℕ)) × gives old.left (Ok (rest, v)) × (new ≡ advanced old rest)
 Reads gives old (Err e) new = gives old.left (Err e.reason) × (e ≡ refusal_at old e.reason) × (new ≡ old)
 
 -- The value is the last one of a content, or Eof is reported at the place of what is left. `made` says which errors are
 -- made of Eof.
-abbrev pub IsLast : {O E : Type 0} → (Bor (List ℕ) → ErrorKind → E → Type 0) → O → Cursor → Result O (Refusal E)
+abbrev pub IsLast : {O E : Type 0} → (Bor (List ℕ) → ErrorKind → E → Type 0) → O → Cursor → Result O (ReadError E)
     → Type 0
 IsLast made v c (Ok x) = (octets_left c ≡ []) × (x ≡ v)
 IsLast {O} {E} made v c (Err e) = (octets_left c ≢ [])
     × (x : E) × made c.left Eof x × (e ≡ refusal_at c (Error x))
 
 -- the cursor goes on after what was read, or a refusal has its place and the cursor stays
-abbrev pub GoesOn : {T : Type 0} → Cursor → Result T (Refusal BerError) → Cursor → Type 0
+abbrev pub GoesOn : {T : Type 0} → Cursor → Result T (ReadError BerError) → Cursor → Type 0
 GoesOn old (Ok v) new = new ≡ advanced old new.left
 GoesOn old (Err e) new = (e ≡ refusal_at old e.reason) × (new ≡ old)
 
 -- what a parser returns on the octets left, if its value is the last one; else its refusal, or that of what is left
 abbrev pub ReadsLast : {O E : Type 0} → (Bor (List ℕ) → Answered O E → Type 0) → (Bor (List ℕ) → ErrorKind → E → Type 0)
-    → Cursor → Result O (Refusal E) → Type 0
-ReadsLast {O} {E} gives made c result = ((e : Refusal E) × (result ≡ Err e) × Reads gives c result c)
+    → Cursor → Result O (ReadError E) → Type 0
+ReadsLast {O} {E} gives made c result = ((e : ReadError E) × (result ≡ Err e) × Reads gives c result c)
     ⊎ ((v : O) × (d : Cursor) × Reads gives c (Ok v) d × IsLast made v d result)
 
 -- the cursor over a content with the one after its element, or the reason for a refusal
-abbrev pub opened : Result Cursor (Refusal BerError) → Cursor → Result (Cursor × Cursor) (Refused BerError)
+abbrev pub opened : Result Cursor (ReadError BerError) → Cursor → Result (Cursor × Cursor) (Refused BerError)
 opened (Ok inner) new = Ok (inner, new)
 opened (Err e) new = Err e.reason
 
@@ -133,7 +133,7 @@ abbrev pub contents : Cursor × Cursor → List ℕ × List ℕ
 contents x = (octets_left x.0, octets_left x.1)
 
 -- the value, or the reason alone
-abbrev pub reason_of : {T E : Type 0} → Result T (Refusal E) → Result T (Refused E)
+abbrev pub reason_of : {T E : Type 0} → Result T (ReadError E) → Result T (Refused E)
 reason_of (Ok x) = Ok x
 reason_of (Err e) = Err e.reason
 
@@ -148,7 +148,7 @@ module _ (old : Cursor) where
   LacksAt n = (is_inside old ≡ false) × ElementLacks (rules_of old) (octets_left old) n
 
   -- what was found next, and what follows it
-  abbrev pub Finds : Class → Bool → ℕ → Result Found (Refusal BerError) → Type 0
+  abbrev pub Finds : Class → Bool → ℕ → Result Found (ReadError BerError) → Type 0
   Finds c p t result = MatchAnswer (reason_of result)
       (λ x. SpellsElement (rules_of old) c p t (octets_left old) (x.content.now, x.rest.now)
       × MarkerFollows (rules_of old) (octets_left old) x.marker)
@@ -157,7 +157,7 @@ module _ (old : Cursor) where
 
 -- The content ends before the end marker, or where the element ends. A refusal has the place of the element, and then
 -- the cursor stays.
-abbrev pub KeepsPlace : Cursor → Result Cursor (Refusal BerError) → Cursor → Type 0
+abbrev pub KeepsPlace : Cursor → Result Cursor (ReadError BerError) → Cursor → Type 0
 KeepsPlace old (Ok inner) new = (new ≡ advanced old new.left)
     × ((m : ℕ) × MarkerFollows (rules_of old) (octets_left old) m × (end_of inner ≡ place_of new - m))
     × (is_inside inner ≡ true) × (rules_of inner ≡ rules_of old) × (inner.implicit ≡ None)
@@ -165,18 +165,18 @@ KeepsPlace old (Err e) new = (e ≡ refusal_at old e.reason) × (new ≡ old)
 
 -- Opens exactly the element of this class, constructed bit and number, where the octets left begin with it.
 pub record OpensAt (class : Class) (constructed : Bool) (number : ℕ) (old : Cursor)
-    (result : Result Cursor (Refusal BerError)) (new : Cursor) : Type 0 where
+    (result : Result Cursor (ReadError BerError)) (new : Cursor) : Type 0 where
   pub element : let i = octets_left old in let r = rules_of old in AnswersExactly (opened result new) contents
       (λ x. SpellsElement r class constructed number i (contents x)) (SpellsElement r class constructed number i)
       (RefusesAt old (ElementRefuses r class constructed number i)) (LacksAt old) ⊥ ⊥
   pub places : KeepsPlace old result new
 
 -- the next element, under an implicit tag where that was said, is opened as one of the universal type t
-abbrev pub OpensType : Bool → ℕ → Cursor → Result Cursor (Refusal BerError) → Cursor → Type 0
+abbrev pub OpensType : Bool → ℕ → Cursor → Result Cursor (ReadError BerError) → Cursor → Type 0
 OpensType p t old = OpensAt (class_wanted old.implicit) p (number_wanted old.implicit t) old
 
 -- the content octets of a primitive one, and what follows it
-abbrev pub FindsPrimitive : ℕ → Cursor → Result (Bor (List ℕ) × Bor (List ℕ)) (Refusal BerError) → Type 0
+abbrev pub FindsPrimitive : ℕ → Cursor → Result (Bor (List ℕ) × Bor (List ℕ)) (ReadError BerError) → Type 0
 FindsPrimitive t old result = let r = rules_of old in let c = class_wanted old.implicit in
     let n = number_wanted old.implicit t in let i = octets_left old in MatchAnswer (reason_of result)
     (λ x. SpellsElement r c false n i (leading_content x)) (RefusesAt old (ElementRefuses r c false n i))
@@ -184,13 +184,13 @@ FindsPrimitive t old result = let r = rules_of old in let c = class_wanted old.i
     × IfErr result (λ e. e ≡ refusal_at old e.reason)
 
 -- the value of content octets is taken with what follows, or its refusal is that of the element
-abbrev pub Takes : {T : Type 0} → Cursor → Bor (List ℕ) → Result T BerError → Result T (Refusal BerError) → Cursor
+abbrev pub Takes : {T : Type 0} → Cursor → Bor (List ℕ) → Result T BerError → Result T (ReadError BerError) → Cursor
     → Type 0
 Takes old rest (Ok x) result new = (result ≡ Ok x) × (new ≡ advanced old rest)
 Takes old rest (Err e) result new = (result ≡ Err (refusal_at old (Error e))) × (new ≡ old)
 
 -- the value with the cursor after its element, or the reason for a refusal
-abbrev pub taken : {T : Type 0} → Result T (Refusal BerError) → Cursor → Result (T × Cursor) (Refused BerError)
+abbrev pub taken : {T : Type 0} → Result T (ReadError BerError) → Cursor → Result (T × Cursor) (Refused BerError)
 taken (Ok x) new = Ok (x, new)
 taken (Err e) new = Err e.reason
 
@@ -211,7 +211,7 @@ module _ {T V : Type 0} (value : T → V) (k : Kind V) (t : ℕ) where
   abbrev pub value_left : T × Cursor → V × List ℕ
   value_left x = (value x.0, octets_left x.1)
 
-  pub record ReadsValue (old : Cursor) (result : Result T (Refusal BerError)) (new : Cursor) : Type 0 where
+  pub record ReadsValue (old : Cursor) (result : Result T (ReadError BerError)) (new : Cursor) : Type 0 where
     pub value_read : AnswersExactly (taken result new) value_left (λ x. SpellsValue old (value_left x))
         (SpellsValue old) (RefusesAt old (ValueRefuses old)) (LacksAt old) ⊥ ⊥
     pub place : GoesOn old result new
@@ -221,14 +221,14 @@ abbrev pub IsNextType : ℕ → Cursor → Type 0
 IsNextType t old = IsNext (class_wanted old.implicit) (number_wanted old.implicit t) (octets_left old)
 
 -- an optional value: it is read exactly where its identifier octets are next; else there is none, and nothing is read
-abbrev pub ReadsOptional : {T V : Type 0} → (T → V) → Kind V → ℕ → Cursor → Result (Option T) (Refusal BerError)
+abbrev pub ReadsOptional : {T V : Type 0} → (T → V) → Kind V → ℕ → Cursor → Result (Option T) (ReadError BerError)
     → Cursor → Type 0
 ReadsOptional value k t old (Ok None) new = (¬ IsNextType t old) × (new ≡ advanced old old.left)
 ReadsOptional value k t old (Ok (Some x)) new = IsNextType t old × ReadsValue value k t old (Ok x) new
 ReadsOptional value k t old (Err e) new = IsNextType t old × ReadsValue value k t old (Err e) new
 
 -- a value with a default, which stands for one that is absent; by DER one that is encoded is another (11.5)
-abbrev pub ReadsOr : {T V : Type 0} → (T → V) → Kind V → ℕ → T → Cursor → Result T (Refusal BerError) → Cursor → Type 0
+abbrev pub ReadsOr : {T V : Type 0} → (T → V) → Kind V → ℕ → T → Cursor → Result T (ReadError BerError) → Cursor → Type 0
 ReadsOr value k t d old (Ok x) new = ((¬ IsNextType t old) × (x ≡ d) × (new ≡ advanced old old.left))
     ⊎ (IsNextType t old × ReadsValue value k t old (Ok x) new × (rules_of old ≡ Der → x ≢ d))
 ReadsOr value k t d old (Err e) new = IsNextType t old × (ReadsValue value k t old (Err e) new
@@ -236,7 +236,7 @@ ReadsOr value k t d old (Err e) new = IsNextType t old × (ReadsValue value k t 
     × (e ≡ refusal_at old (Error BerValueError)) × (new ≡ old)))
 
 -- the time of a choice of UTCTime and GeneralizedTime, as RFC 5280 has it (4.1)
-abbrev pub ReadsTime : Cursor → Result ASN1DateTime (Refusal BerError) → Cursor → Type 0
+abbrev pub ReadsTime : Cursor → Result ASN1DateTime (ReadError BerError) → Cursor → Type 0
 ReadsTime old result new = (IsNextType 24 old × ReadsValue (λ v. v) (times (rules_of old) 24) 24 old result new)
     ⊎ ((¬ IsNextType 24 old) × ReadsValue (λ v. v) (times (rules_of old) 23) 23 old result new)
 
@@ -246,7 +246,7 @@ element_left x = leading (class_of x.0.header) (is_constructed x.0.header) (numb
     (x.0.bytes.now, octets_left x.1)
 
 -- any element at all is read, and its header is the one that is there
-pub record ReadsAnyAt (old : Cursor) (result : Result Any (Refusal BerError)) (new : Cursor) : Type 0 where
+pub record ReadsAnyAt (old : Cursor) (result : Result Any (ReadError BerError)) (new : Cursor) : Type 0 where
   pub any_read : let r = rules_of old in let i = octets_left old in AnswersExactly (taken result new) element_left
       (λ x. SpellsLeading r i (element_left x)) (SpellsLeading r i) (RefusesAt old (NoElement r i)) (LacksAt old) ⊥ ⊥
   pub header : IfOk result (λ a. HasHeader (rules_of old) (octets_left old) (element_of a))
@@ -254,7 +254,7 @@ pub record ReadsAnyAt (old : Cursor) (result : Result Any (Refusal BerError)) (n
 
 -- Opens an explicit tag of this number exactly where its identifier octets are next. Else there is none, and nothing is
 -- read.
-abbrev pub OpensTagged : ℕ → Cursor → Result (Option Cursor) (Refusal BerError) → Cursor → Type 0
+abbrev pub OpensTagged : ℕ → Cursor → Result (Option Cursor) (ReadError BerError) → Cursor → Type 0
 OpensTagged n old (Ok None) new = (¬ BeginsWithTag n (octets_left old)) × (new ≡ advanced old old.left)
 OpensTagged n old (Ok (Some inner)) new = BeginsWithTag n (octets_left old)
     × OpensAt ContextSpecific true n old (Ok inner) new
@@ -262,13 +262,13 @@ OpensTagged n old (Err e) new = BeginsWithTag n (octets_left old) × OpensAt Con
 
 -- the next element, if there is any, is of the class Universal by its first identifier octet (8.1.2.2), or its class is
 -- reported at its place
-abbrev pub AssertsUniversal : Cursor → Result (Unit {0}) (Refusal BerError) → Type 0
+abbrev pub AssertsUniversal : Cursor → Result (Unit {0}) (ReadError BerError) → Type 0
 AssertsUniversal c (Ok u) = IfSome (slice_get (octets_left c) 0) (λ b. b / 64 ≡ class_number Universal)
 AssertsUniversal c (Err e) = IsSomeAnd (slice_get (octets_left c) 0) (λ b. (k : Class) × (b / 64 ≡ class_number k)
     × (k ≢ Universal) × (e ≡ refusal_at c (Error (UnexpectedClass (Some Universal) k))))
 
 -- nothing is left, or Eof is reported at the place of what is
-abbrev pub EndsAt : Cursor → Result (Unit {0}) (Refusal BerError) → Type 0
+abbrev pub EndsAt : Cursor → Result (Unit {0}) (ReadError BerError) → Type 0
 EndsAt c (Ok u) = octets_left c ≡ []
 EndsAt c (Err e) = (octets_left c ≢ []) × (e ≡ refusal_at c (Error (NomError Eof)))
 
@@ -299,7 +299,7 @@ is_at_end None place = false
 is_at_end (Some n) place = nat_eq n place
 
 -- the reason in words, where it has a text
-abbrev pub reason_text : {E : Type 0} → (E → Option (List ℕ)) → (E → Option BerError) → Refusal E → Refused E
+abbrev pub reason_text : {E : Type 0} → (E → Option (List ℕ)) → (E → Option BerError) → ReadError E → Refused E
     → Option (List ℕ)
 reason_text shown held e (Incomplete needed) = Some (cut_text e.list_end e.offset needed)
 reason_text shown held e (Error x) = error_text (is_at_end e.list_end e.offset) (held x) (shown x)
@@ -307,6 +307,6 @@ reason_text shown held e (Failure x) = error_text (is_at_end e.list_end e.offset
 reason_text shown held e OutOfMemory = Some (codes "out of memory")
 
 -- the text of a refusal, where its reason has one
-abbrev pub refusal_text : {E : Type 0} → (E → Option (List ℕ)) → (E → Option BerError) → Refusal E → Option (List ℕ)
+abbrev pub refusal_text : {E : Type 0} → (E → Option (List ℕ)) → (E → Option BerError) → ReadError E → Option (List ℕ)
 refusal_text shown held e =
     option_map (λ reason. codes "at " ++ decimal e.offset ++ codes ": " ++ reason) (reason_text shown held e e.reason)

@@ -20,8 +20,8 @@ use Rattle.der_base.specs.Refusal.{Refusal as Name}
 use Rattle.der_values.specs.Kinds.{Kind, booleans, integers, numbers, enumerated_numbers, bit_strings, octet_strings}
 use Rattle.der_values.specs.Kinds.{nulls, identifiers, texts, times}
 use Rattle.der_cursor.specs.declared.cursor.Cursor.{Cursor}
-use Rattle.der_cursor.specs.declared.named.FieldRefusal.{FieldRefusal}
-use Rattle.der_cursor.specs.declared.refusal.Refusal.{Refusal}
+use Rattle.der_cursor.specs.declared.named.FieldError.{FieldError}
+use Rattle.der_cursor.specs.declared.error.ReadError.{ReadError}
 use Rattle.der_cursor.specs.Cursors.{octets_left, rules_of, advanced, reason_of}
 use Rattle.der_cursor.specs.Named.{reason_in}
 use Rattle.der_cursor.specs.Elements.{SpellsElement, SpellsAny, ElementLacks, ElementRefuses, BeginsWithTag, IsNext}
@@ -220,10 +220,10 @@ abbrev pub Never : {E : Type 0} → E → Type 0
 Never e = ⊥
 
 -- there may be no memory
-abbrev pub NoMemory : {E : Type 0} → Refusal E → Type 0
+abbrev pub NoMemory : {E : Type 0} → ReadError E → Type 0
 NoMemory e = e.reason ≡ OutOfMemory
 
-abbrev pub NoMemoryIn : FieldRefusal → Type 0
+abbrev pub NoMemoryIn : FieldError → Type 0
 NoMemoryIn e = NoMemory e.refusal
 
 -- A reader of values: what it returns is so, and what is so is returned. Which refusal it returns else is left open.
@@ -268,28 +268,28 @@ pub record ReadsElement {T V W E : Type 0} (reason : Result T E → Result T (Re
   pub shows : ShowsElement r F i (reason result)
 
 -- a reader of an input that is a value of the type
-abbrev pub ReadsInput : {T V : Type 0} → Rules → Format V → (T → V) → (Refusal BerError → Type 0) → List ℕ
-    → Result T (Refusal BerError) → Type 0
+abbrev pub ReadsInput : {T V : Type 0} → Rules → Format V → (T → V) → (ReadError BerError → Type 0) → List ℕ
+    → Result T (ReadError BerError) → Type 0
 ReadsInput r F view May i result = ReadsElement reason_of r F (Only (Required F)) view May i result
 
 -- the same, whose refusals have the names of fields
-abbrev pub ReadsNamedInput : {T V : Type 0} → Rules → Format V → (T → V) → (FieldRefusal → Type 0) → List ℕ
-    → Result T FieldRefusal → Type 0
+abbrev pub ReadsNamedInput : {T V : Type 0} → Rules → Format V → (T → V) → (FieldError → Type 0) → List ℕ
+    → Result T FieldError → Type 0
 ReadsNamedInput r F view May i result = ReadsElement reason_in r F (Only (Required F)) view May i result
 
 -- a reader of the element that an input begins with, which returns what follows it
-pub record ReadsFront {T V : Type 0} (r : Rules) (F : Format V) (view : T → V) (May : FieldRefusal → Type 0)
-    (i : List ℕ) (result : Result (Bor (List ℕ) × T) FieldRefusal) : Type 0 where
+pub record ReadsFront {T V : Type 0} (r : Rules) (F : Format V) (view : T → V) (May : FieldError → Type 0)
+    (i : List ℕ) (result : Result (Bor (List ℕ) × T) FieldError) : Type 0 where
   pub value : ReadsWhole (λ (v : V × List ℕ). Required F r i v.0 v.1) (λ x. (view x.1, x.0.now)) May result
   pub shows : ShowsElement r F i (reason_in result)
 
 -- a cursor is opened over the octets that a content keeps, and reads them by the same rules
-pub record Opens (C : Content (List ℕ)) (c : Cursor) (result : Result Cursor (Refusal BerError)) : Type 0 where
+pub record Opens (C : Content (List ℕ)) (c : Cursor) (result : Result Cursor (ReadError BerError)) : Type 0 where
   pub octets : ReadsContent C octets_left Never c result
   pub by : IfOk result (λ d. (rules_of d ≡ rules_of c) × (d.implicit ≡ None))
 
 -- which of these types the next element is, if it is of one of them
-pub record TellsNext {K V : Type 0} (F : K → Format V) (c : Cursor) (result : Result K (Refusal BerError))
+pub record TellsNext {K V : Type 0} (F : K → Format V) (c : Cursor) (result : Result K (ReadError BerError))
     : Type 0 where
   pub only : (k : K) (w : List ℕ × List ℕ) → SpellsElement (rules_of c) (F k).class (F k).constructed (F k).number
       (octets_left c) w → MatchResult result (λ x. x ≡ k) Never

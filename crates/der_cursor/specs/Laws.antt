@@ -5,7 +5,7 @@ use Rattle.der_base.specs.declared.error.Error.{Error as BerError}
 use Rattle.der_base.specs.declared.header.Class.{Class}
 use Rattle.der_base.specs.declared.rules.Rules.{Rules}
 use Rattle.der_cursor.specs.declared.cursor.Cursor.{Cursor}
-use Rattle.der_cursor.specs.declared.refusal.Refusal.{Refusal}
+use Rattle.der_cursor.specs.declared.error.ReadError.{ReadError}
 use Rattle.der_cursor.specs.Cursors.{octets_left, place_of, advanced, StartsAt, StandsIn, OpensAt}
 
 -- the place of a cursor is the number of octets before those that are left
@@ -24,5 +24,5 @@ EndsStand = (i : List ℕ) (c : Cursor) (taken : List ℕ) (rest : Bor (List ℕ
 -- and so do the cursors that an opened element leaves
 abbrev pub OpenedStand : Type 0
 OpenedStand = (i : List ℕ) (class : Class) (constructed : Bool) (number : ℕ) (old new : Cursor)
-    (result : Result Cursor (Refusal BerError)) → StandsIn i old → OpensAt class constructed number old result new
+    (result : Result Cursor (ReadError BerError)) → StandsIn i old → OpensAt class constructed number old result new
     → StandsIn i new × IfOk result (StandsIn i)

@@ -13,7 +13,7 @@ ghost use Rattle.der_cursor.specs.Elements.{AnswersElement, BeginsWithTag, Eleme
 ghost use Rattle.der_cursor.specs.Elements.{MarkerFollows, NoElement, ReadsAnyBy, SpellsElement, content_and_rest};
 ghost use Rattle.der_cursor.specs.Elements.{IsShortElement, marker_size};
 
-use crate::refusal::Refusal;
+use crate::error::ReadError;
 use der_base::any::Any;
 use der_base::error::{BerError, Err as Refused, ErrorKind, IResult, ParseError, refuse_cut_item};
 use der_base::header::{Class, Length, Tag};
@@ -122,7 +122,7 @@ impl<'a> Cursor<'a> {
 
     /// Calls the parser once on the octets that are left, and returns its value. If it fails, the error has the
     /// cursor's offset, and the cursor stays there.
-    pub fn read<O, F, E>(&mut self, parser: F) -> Result<O, Refusal<E>>
+    pub fn read<O, F, E>(&mut self, parser: F) -> Result<O, ReadError<E>>
     where
         F: FnOnce(&'a [u8]) -> IResult<&'a [u8], O, E>,
         requires { F.IsAlwaysCallable parser }
@@ -138,7 +138,7 @@ impl<'a> Cursor<'a> {
     }
 
     /// `read` with a parser that allocates.
-    pub fn read_in<O, F, E>(&mut self, alloc: Global, parser: F) -> Result<O, Refusal<E>>
+    pub fn read_in<O, F, E>(&mut self, alloc: Global, parser: F) -> Result<O, ReadError<E>>
     where
         F: FnOnce(Global, &'a [u8]) -> IResult<&'a [u8], O, E>,
         requires { F.IsAlwaysCallable parser }
@@ -154,7 +154,7 @@ impl<'a> Cursor<'a> {
     }
 
     /// `read` for the last value. Eof if there is trailing data.
-    pub fn read_last<O, F, E>(mut self, parser: F) -> Result<O, Refusal<E>>
+    pub fn read_last<O, F, E>(mut self, parser: F) -> Result<O, ReadError<E>>
     where
         F: FnOnce(&'a [u8]) -> IResult<&'a [u8], O, E>,
         O: Drop,
@@ -169,7 +169,7 @@ impl<'a> Cursor<'a> {
     }
 
     /// `read_last` with a parser that allocates.
-    pub fn read_last_in<O, F, E>(mut self, alloc: Global, parser: F) -> Result<O, Refusal<E>>
+    pub fn read_last_in<O, F, E>(mut self, alloc: Global, parser: F) -> Result<O, ReadError<E>>
     where
         F: FnOnce(Global, &'a [u8]) -> IResult<&'a [u8], O, E>,
         O: Drop,
@@ -184,7 +184,7 @@ impl<'a> Cursor<'a> {
     }
 
     /// Returns a value if no octets are left after it, else Eof.
-    fn last<O, E>(self, value: O) -> Result<O, Refusal<E>>
+    fn last<O, E>(self, value: O) -> Result<O, ReadError<E>>
     where
         O: Drop,
         E: ParseError<&'a [u8]>,
@@ -199,9 +199,9 @@ impl<'a> Cursor<'a> {
 
     /// Calls `read` until no octets are left, and returns the values. An error of `read` is returned as it is. Many0 if
     /// a call reads no octets, OutOfMemory if there is no memory for a value; both have the offset of that call.
-    pub fn read_all<O, F, E>(self, alloc: Global, mut read: F) -> Result<Vec<O>, Refusal<E>>
+    pub fn read_all<O, F, E>(self, alloc: Global, mut read: F) -> Result<Vec<O>, ReadError<E>>
     where
-        F: FnMut(Global, &mut Cursor<'a>) -> Result<O, Refusal<E>> + Drop,
+        F: FnMut(Global, &mut Cursor<'a>) -> Result<O, ReadError<E>> + Drop,
         O: Drop,
         E: ParseError<&'a [u8]>,
         requires { F.IsAlwaysCallable read }
@@ -228,28 +228,28 @@ impl<'a> Cursor<'a> {
     }
 
     /// A cursor over the items of the next element, which has to be a SEQUENCE (8.9).
-    pub fn open_sequence(&mut self) -> Result<Cursor<'a>, Refusal<BerError>>
+    pub fn open_sequence(&mut self) -> Result<Cursor<'a>, ReadError<BerError>>
         ensures { OpensType true 16 self.old result self.new }
     {
         self.open_type(true, Tag::Sequence)
     }
 
     /// A cursor over the items of the next element, which has to be a SET (8.11).
-    pub fn open_set(&mut self) -> Result<Cursor<'a>, Refusal<BerError>>
+    pub fn open_set(&mut self) -> Result<Cursor<'a>, ReadError<BerError>>
         ensures { OpensType true 17 self.old result self.new }
     {
         self.open_type(true, Tag::Set)
     }
 
     /// A cursor over the octets of the next element, which has to be a primitive OCTET STRING (8.7).
-    pub fn open_octet_string(&mut self) -> Result<Cursor<'a>, Refusal<BerError>>
+    pub fn open_octet_string(&mut self) -> Result<Cursor<'a>, ReadError<BerError>>
         ensures { OpensType false 4 self.old result self.new }
     {
         self.open_type(false, Tag::OctetString)
     }
 
     /// Opens an element of a universal type, or of its implicit tag.
-    fn open_type(&mut self, constructed: bool, tag: Tag) -> Result<Cursor<'a>, Refusal<BerError>>
+    fn open_type(&mut self, constructed: bool, tag: Tag) -> Result<Cursor<'a>, ReadError<BerError>>
         ensures { OpensType constructed tag.0 self.old result self.new }
     {
         self.open(self.class_wanted(), constructed, self.tag_wanted(tag))
@@ -257,7 +257,7 @@ impl<'a> Cursor<'a> {
 
     /// A cursor over the content of the next element, if that is an explicit tag of this number
     /// (8.14.2). None if it is another element, or there is none.
-    pub fn open_tagged(&mut self, number: u8) -> Result<Option<Cursor<'a>>, Refusal<BerError>>
+    pub fn open_tagged(&mut self, number: u8) -> Result<Option<Cursor<'a>>, ReadError<BerError>>
         ensures { OpensTagged number self.old result self.new }
     {
         if !begins_with_tag(self.left, number) {
@@ -278,7 +278,7 @@ impl<'a> Cursor<'a> {
         class: Class,
         constructed: bool,
         tag: Tag,
-    ) -> Result<Cursor<'a>, Refusal<BerError>>
+    ) -> Result<Cursor<'a>, ReadError<BerError>>
         ensures { OpensAt class constructed tag.0 self.old result self.new }
     {
         let found = match self.find(class, constructed, tag) {
@@ -304,7 +304,7 @@ impl<'a> Cursor<'a> {
         class: Class,
         constructed: bool,
         tag: Tag,
-    ) -> Result<Found<'a>, Refusal<BerError>>
+    ) -> Result<Found<'a>, ReadError<BerError>>
         ensures { Finds self.now class constructed tag.0 result }
     {
         match find_short(self.left, class, constructed, tag) {
@@ -319,7 +319,7 @@ impl<'a> Cursor<'a> {
         class: Class,
         constructed: bool,
         tag: Tag,
-    ) -> Result<Found<'a>, Refusal<BerError>>
+    ) -> Result<Found<'a>, ReadError<BerError>>
         ensures { Finds self.now class constructed tag.0 result }
     {
         match parse_element(self.rules, self.left, class, constructed, tag) {
@@ -363,7 +363,7 @@ impl<'a> Cursor<'a> {
 
     /// UnexpectedClass if the next element isn't of class Universal (8.1.2.2). The readers of one type only compare the
     /// tag number.
-    pub fn assert_universal(&self) -> Result<(), Refusal<BerError>>
+    pub fn assert_universal(&self) -> Result<(), ReadError<BerError>>
         ensures { AssertsUniversal self.now result }
     {
         let Some(octet) = self.identifier() else {
@@ -378,7 +378,7 @@ impl<'a> Cursor<'a> {
     }
 
     /// Ends a list. Eof if there is trailing data.
-    pub fn end(self) -> Result<(), Refusal<BerError>>
+    pub fn end(self) -> Result<(), ReadError<BerError>>
         ensures { EndsAt self.entry result }
     {
         if !self.left.is_empty() {
@@ -388,17 +388,17 @@ impl<'a> Cursor<'a> {
     }
 
     /// An error at the next element for a reason of the caller's, such as a value that the format doesn't have.
-    pub fn refuse(&self, e: BerError) -> Refusal<BerError>
+    pub fn refuse(&self, e: BerError) -> ReadError<BerError>
         ensures { result ≡ refusal_at self.now (Refused.Error e) }
     {
         self.refused(Refused::Error(e))
     }
 
     /// An error at the next element.
-    pub(crate) fn refused<E>(&self, reason: Refused<E>) -> Refusal<E>
+    pub(crate) fn refused<E>(&self, reason: Refused<E>) -> ReadError<E>
         ensures { result ≡ refusal_at self.now reason }
     {
-        Refusal {
+        ReadError {
             offset: self.offset(),
             list_end: self.list_end(),
             reason,

@@ -17,7 +17,7 @@ ghost use Rattle.der_values.specs.Kinds.{bit_strings, booleans, borrowed_octets,
 ghost use Rattle.der_values.specs.Kinds.{integers, nulls, numbers, octet_strings, texts, times};
 
 use crate::cursor::Cursor;
-use crate::refusal::Refusal;
+use crate::error::ReadError;
 use der_base::error::{BerError, Err as Refused};
 use der_base::header::Tag;
 use der_base::time::ASN1DateTime;
@@ -28,7 +28,7 @@ use der_values::{
 
 impl<'a> Cursor<'a> {
     /// A BOOLEAN (X.690 8.2, 11.1), as `read_bool`.
-    pub fn boolean(&mut self) -> Result<bool, Refusal<BerError>>
+    pub fn boolean(&mut self) -> Result<bool, ReadError<BerError>>
         ensures { ReadsValue (λ v. v) (booleans self.old.rules) 1 self.old result self.new }
     {
         let (rest, octets) = self.primitive(Tag::Boolean)?;
@@ -36,7 +36,7 @@ impl<'a> Cursor<'a> {
     }
 
     /// The content octets of an INTEGER, in two's complement (8.3), as `read_integer`.
-    pub fn integer(&mut self) -> Result<&'a [u8], Refusal<BerError>>
+    pub fn integer(&mut self) -> Result<&'a [u8], ReadError<BerError>>
         ensures { ReadsValue (λ v. v.now) (integers self.old.rules) 2 self.old result self.new }
     {
         let (rest, octets) = self.primitive(Tag::Integer)?;
@@ -44,7 +44,7 @@ impl<'a> Cursor<'a> {
     }
 
     /// The number of an INTEGER from 0 to 2^32-1, as `read_u32`.
-    pub fn u32(&mut self) -> Result<u32, Refusal<BerError>>
+    pub fn u32(&mut self) -> Result<u32, ReadError<BerError>>
         ensures { ReadsValue pos (numbers self.old.rules (unsigned 32)) 2 self.old result self.new }
     {
         let (rest, octets) = self.primitive(Tag::Integer)?;
@@ -52,7 +52,7 @@ impl<'a> Cursor<'a> {
     }
 
     /// The number of an INTEGER from 0 to 2^64-1, as `read_u64`.
-    pub fn u64(&mut self) -> Result<u64, Refusal<BerError>>
+    pub fn u64(&mut self) -> Result<u64, ReadError<BerError>>
         ensures { ReadsValue pos (numbers self.old.rules (unsigned 64)) 2 self.old result self.new }
     {
         let (rest, octets) = self.primitive(Tag::Integer)?;
@@ -60,7 +60,7 @@ impl<'a> Cursor<'a> {
     }
 
     /// The number of an INTEGER from -2^31 to 2^31-1, as `read_i32`.
-    pub fn i32(&mut self) -> Result<i32, Refusal<BerError>>
+    pub fn i32(&mut self) -> Result<i32, ReadError<BerError>>
         ensures { ReadsValue (λ v. v) (numbers self.old.rules (signed 32)) 2 self.old result self.new }
     {
         let (rest, octets) = self.primitive(Tag::Integer)?;
@@ -68,7 +68,7 @@ impl<'a> Cursor<'a> {
     }
 
     /// The number of an INTEGER from -2^63 to 2^63-1, as `read_i64`.
-    pub fn i64(&mut self) -> Result<i64, Refusal<BerError>>
+    pub fn i64(&mut self) -> Result<i64, ReadError<BerError>>
         ensures { ReadsValue (λ v. v) (numbers self.old.rules (signed 64)) 2 self.old result self.new }
     {
         let (rest, octets) = self.primitive(Tag::Integer)?;
@@ -76,7 +76,7 @@ impl<'a> Cursor<'a> {
     }
 
     /// The number of an ENUMERATED (8.4), as `read_enumerated`.
-    pub fn enumerated(&mut self) -> Result<u64, Refusal<BerError>>
+    pub fn enumerated(&mut self) -> Result<u64, ReadError<BerError>>
         ensures { ReadsValue (λ v. v) (enumerated_numbers self.old.rules) 10 self.old result self.new }
     {
         let (rest, octets) = self.primitive(Tag::Enumerated)?;
@@ -84,7 +84,7 @@ impl<'a> Cursor<'a> {
     }
 
     /// The bits of a BIT STRING (8.6, 11.2), as `read_bits`.
-    pub fn bits(&mut self) -> Result<BitString<'a>, Refusal<BerError>>
+    pub fn bits(&mut self) -> Result<BitString<'a>, ReadError<BerError>>
         ensures { ReadsValue (λ v. (v.unused, v.octets.now)) (bit_strings self.old.rules) 3 self.old result self.new }
     {
         let (rest, octets) = self.primitive(Tag::BitString)?;
@@ -92,7 +92,7 @@ impl<'a> Cursor<'a> {
     }
 
     /// The octets of an OCTET STRING (8.7).
-    pub fn octets(&mut self) -> Result<&'a [u8], Refusal<BerError>>
+    pub fn octets(&mut self) -> Result<&'a [u8], ReadError<BerError>>
         ensures { ReadsValue (λ v. v.now) octet_strings 4 self.old result self.new }
     {
         let (rest, octets) = self.primitive(Tag::OctetString)?;
@@ -100,7 +100,7 @@ impl<'a> Cursor<'a> {
     }
 
     /// A NULL (8.8), as `read_null`.
-    pub fn null(&mut self) -> Result<(), Refusal<BerError>>
+    pub fn null(&mut self) -> Result<(), ReadError<BerError>>
         ensures { ReadsValue (λ v. v) (nulls self.old.rules) 5 self.old result self.new }
     {
         let (rest, octets) = self.primitive(Tag::Null)?;
@@ -108,7 +108,7 @@ impl<'a> Cursor<'a> {
     }
 
     /// An OBJECT IDENTIFIER (8.19), as `read_identifier`: padded arcs are rejected.
-    pub fn oid(&mut self) -> Result<ObjectIdentifier<'a>, Refusal<BerError>>
+    pub fn oid(&mut self) -> Result<ObjectIdentifier<'a>, ReadError<BerError>>
         ensures { ReadsValue borrowed_octets identifiers 6 self.old result self.new }
     {
         let (rest, octets) = self.primitive(Tag::Oid)?;
@@ -116,7 +116,7 @@ impl<'a> Cursor<'a> {
     }
 
     /// The text of a string type that is kept as a text (8.23), as `read_text`.
-    pub fn text(&mut self, tag: Tag) -> Result<&'a str, Refusal<BerError>>
+    pub fn text(&mut self, tag: Tag) -> Result<&'a str, ReadError<BerError>>
         requires { IsTrue (is_text_type tag.0) }
         ensures { ReadsValue (λ v. v.now) (texts tag.0) tag.0 self.old result self.new }
     {
@@ -125,35 +125,35 @@ impl<'a> Cursor<'a> {
     }
 
     /// The text of a UTF8String (8.23.10).
-    pub fn utf8_string(&mut self) -> Result<&'a str, Refusal<BerError>>
+    pub fn utf8_string(&mut self) -> Result<&'a str, ReadError<BerError>>
         ensures { ReadsValue (λ v. v.now) (texts 12) 12 self.old result self.new }
     {
         self.text(Tag::Utf8String)
     }
 
     /// The text of a PrintableString.
-    pub fn printable_string(&mut self) -> Result<&'a str, Refusal<BerError>>
+    pub fn printable_string(&mut self) -> Result<&'a str, ReadError<BerError>>
         ensures { ReadsValue (λ v. v.now) (texts 19) 19 self.old result self.new }
     {
         self.text(Tag::PrintableString)
     }
 
     /// The text of an IA5String.
-    pub fn ia5_string(&mut self) -> Result<&'a str, Refusal<BerError>>
+    pub fn ia5_string(&mut self) -> Result<&'a str, ReadError<BerError>>
         ensures { ReadsValue (λ v. v.now) (texts 22) 22 self.old result self.new }
     {
         self.text(Tag::Ia5String)
     }
 
     /// The text of a GeneralString.
-    pub fn general_string(&mut self) -> Result<&'a str, Refusal<BerError>>
+    pub fn general_string(&mut self) -> Result<&'a str, ReadError<BerError>>
         ensures { ReadsValue (λ v. v.now) (texts 27) 27 self.old result self.new }
     {
         self.text(Tag::GeneralString)
     }
 
     /// The time of a UTCTime (8.25, 11.8), with a year from 1950 to 2049, as `read_time`.
-    pub fn utc_time(&mut self) -> Result<ASN1DateTime, Refusal<BerError>>
+    pub fn utc_time(&mut self) -> Result<ASN1DateTime, ReadError<BerError>>
         ensures { ReadsValue (λ v. v) (times self.old.rules 23) 23 self.old result self.new }
     {
         let (rest, octets) = self.primitive(Tag::UtcTime)?;
@@ -161,7 +161,7 @@ impl<'a> Cursor<'a> {
     }
 
     /// The time of a GeneralizedTime (8.25, 11.7), as `read_time`.
-    pub fn generalized_time(&mut self) -> Result<ASN1DateTime, Refusal<BerError>>
+    pub fn generalized_time(&mut self) -> Result<ASN1DateTime, ReadError<BerError>>
         ensures { ReadsValue (λ v. v) (times self.old.rules 24) 24 self.old result self.new }
     {
         let (rest, octets) = self.primitive(Tag::GeneralizedTime)?;
@@ -170,7 +170,7 @@ impl<'a> Cursor<'a> {
 
     /// Finds the next element as a primitive one of a universal type, or of its implicit tag. Returns what follows it,
     /// and its content octets.
-    fn primitive(&self, tag: Tag) -> Result<(&'a [u8], &'a [u8]), Refusal<BerError>>
+    fn primitive(&self, tag: Tag) -> Result<(&'a [u8], &'a [u8]), ReadError<BerError>>
         ensures { FindsPrimitive tag.0 self.now result }
     {
         match self.find(self.class_wanted(), false, self.tag_wanted(tag)) {
@@ -184,7 +184,7 @@ impl<'a> Cursor<'a> {
         &mut self,
         rest: &'a [u8],
         value: Result<T, BerError>,
-    ) -> Result<T, Refusal<BerError>>
+    ) -> Result<T, ReadError<BerError>>
         ensures { Takes self.old rest.entry value result self.new }
     {
         match value {

@@ -3,12 +3,12 @@
 #![tactic(auto)]
 
 mod cursor;
+mod error;
 mod fields;
 pub mod laws;
 mod named;
 mod optional;
-mod refusal;
 
 pub use cursor::Cursor;
-pub use named::{FieldRefusal, Named};
-pub use refusal::{AsBerError, Refusal};
+pub use error::{AsBerError, ReadError};
+pub use named::{FieldError, Named};

@@ -4,7 +4,7 @@ ghost use Rattle.der_cursor.specs.Named.{IsOfElement, IsSettled, NamesMore, Name
 ghost use Rattle.der_cursor.specs.Named.{names_of};
 
 use crate::cursor::Cursor;
-use crate::refusal::Refusal;
+use crate::error::ReadError;
 use arrayvec::ArrayVec;
 use der_base::error::{BerError, refuse_cut_item};
 use der_base::header::{Class, Tag};
@@ -14,13 +14,13 @@ use std::fmt;
 /// How many names an error keeps. They are the innermost ones.
 pub(crate) const MOST_NAMES: usize = 8;
 
-impl Refusal<BerError> {
+impl ReadError<BerError> {
     /// The error for a part of an element that the input holds in full: more octets don't help, so `Err::Incomplete`
     /// becomes the error Incomplete.
-    pub fn settled(self) -> Refusal<BerError>
+    pub fn settled(self) -> ReadError<BerError>
         ensures { Settles self result }
     {
-        Refusal {
+        ReadError {
             offset: self.offset,
             list_end: self.list_end,
             reason: refuse_cut_item(self.reason),
@@ -36,7 +36,7 @@ impl Refusal<BerError> {
         class: Class,
         constructed: bool,
         tag: Tag,
-    ) -> Refusal<BerError>
+    ) -> ReadError<BerError>
         ensures { IsOfElement class constructed tag.0 input.entry self result }
     {
         let mut element = input;
@@ -49,14 +49,14 @@ impl Refusal<BerError> {
 
 /// An error with the names of the fields around its element: "tbsCertificate.serialNumber at 13: ..".
 #[derive(Drop)]
-pub struct FieldRefusal {
+pub struct FieldError {
     /// The outermost first.
     names: ArrayVec<&'static str, MOST_NAMES>,
     /// The offset and the reason.
-    pub refusal: Refusal<BerError>,
+    pub refusal: ReadError<BerError>,
 }
 
-impl FieldRefusal {
+impl FieldError {
     /// The names of the fields around the element, the outermost first. The innermost eight are kept.
     pub fn names(&self) -> &[&'static str]
         ensures { result.now ≡ names_of self.now }
@@ -66,41 +66,41 @@ impl FieldRefusal {
 
     /// The error for a field of an element that the input holds in full: more octets don't help, so `Err::Incomplete`
     /// becomes the error Incomplete.
-    pub fn settled(self) -> FieldRefusal
+    pub fn settled(self) -> FieldError
         ensures { IsSettled self result }
     {
-        let FieldRefusal { names, refusal } = self;
-        FieldRefusal {
+        let FieldError { names, refusal } = self;
+        FieldError {
             names,
             refusal: refusal.settled(),
         }
     }
 
-    /// `Refusal::of_element`, keeping the names.
+    /// `ReadError::of_element`, keeping the names.
     pub fn of_element(
         self,
         input: Cursor<'_>,
         class: Class,
         constructed: bool,
         tag: Tag,
-    ) -> FieldRefusal
+    ) -> FieldError
         ensures { NamesOfElement class constructed tag.0 input.entry self result }
     {
-        let FieldRefusal { names, refusal } = self;
-        FieldRefusal {
+        let FieldError { names, refusal } = self;
+        FieldError {
             names,
             refusal: refusal.of_element(input, class, constructed, tag),
         }
     }
 }
 
-impl fmt::Debug for FieldRefusal {
+impl fmt::Debug for FieldError {
     fn fmt<W: fmt::Write>(&self, f: &mut fmt::Formatter<W>) -> fmt::Result {
         write!(f, "{self}")
     }
 }
 
-impl fmt::Display for FieldRefusal {
+impl fmt::Display for FieldError {
     fn fmt<W: fmt::Write>(&self, f: &mut fmt::Formatter<W>) -> fmt::Result {
         for (index, name) in self.names.iter().enumerate() {
             if index > 0 {
@@ -112,7 +112,7 @@ impl fmt::Display for FieldRefusal {
     }
 }
 
-impl Error for FieldRefusal {}
+impl Error for FieldError {}
 
 /// Adds the name of a field to its error.
 ///
@@ -122,34 +122,34 @@ impl Error for FieldRefusal {}
 pub trait Named<T> {
     ghost use Rattle.std.specs.Borrow.{Bor};
     ghost use Rattle.std.specs.Prelude.{ℕ, List, Result};
-    ghost use Rattle.der_cursor.specs.declared.named.FieldRefusal.{FieldRefusal};
+    ghost use Rattle.der_cursor.specs.declared.named.FieldError.{FieldError};
 
-    ghost names: { Self → Bor (List ℕ) → Result T FieldRefusal → Type 0 };
+    ghost names: { Self → Bor (List ℕ) → Result T FieldError → Type 0 };
 
     /// The value, or the error with this name before its other names. The innermost eight are kept.
-    fn named(self, name: &'static str) -> Result<T, FieldRefusal>
+    fn named(self, name: &'static str) -> Result<T, FieldError>
         ensures { names self name.entry result };
 }
 
-impl<T> Named<T> for Result<T, Refusal<BerError>> {
+impl<T> Named<T> for Result<T, ReadError<BerError>> {
     ghost names = { NamesRefusal };
 
-    fn named(self, name: &'static str) -> Result<T, FieldRefusal> {
+    fn named(self, name: &'static str) -> Result<T, FieldError> {
         match self {
             Ok(value) => Ok(value),
             Err(refusal) => {
                 let mut names = ArrayVec::new();
                 let _ = names.try_push(name);
-                Err(FieldRefusal { names, refusal })
+                Err(FieldError { names, refusal })
             }
         }
     }
 }
 
-impl<T> Named<T> for Result<T, FieldRefusal> {
+impl<T> Named<T> for Result<T, FieldError> {
     ghost names = { NamesMore };
 
-    fn named(self, name: &'static str) -> Result<T, FieldRefusal> {
+    fn named(self, name: &'static str) -> Result<T, FieldError> {
         match self {
             Ok(value) => Ok(value),
             Err(mut refused) => {

@@ -10,7 +10,7 @@ ghost use Rattle.der_values.specs.Kinds.{bit_strings, booleans, borrowed_octets,
 ghost use Rattle.der_values.specs.Kinds.{octet_strings, texts, times};
 
 use crate::cursor::{Cursor, read_any};
-use crate::refusal::Refusal;
+use crate::error::ReadError;
 use der_base::any::Any;
 use der_base::error::{BerError, Err as Refused, refuse_cut_item};
 use der_base::header::{Class, Tag};
@@ -41,7 +41,7 @@ impl<'a> Cursor<'a> {
     }
 
     /// A BOOLEAN, if it is next.
-    pub fn optional_boolean(&mut self) -> Result<Option<bool>, Refusal<BerError>>
+    pub fn optional_boolean(&mut self) -> Result<Option<bool>, ReadError<BerError>>
         ensures { ReadsOptional (λ v. v) (booleans self.old.rules) 1 self.old result self.new }
     {
         if !self.is_next_type(Tag::Boolean) {
@@ -55,7 +55,7 @@ impl<'a> Cursor<'a> {
     }
 
     /// The content octets of an INTEGER, if it is next.
-    pub fn optional_integer(&mut self) -> Result<Option<&'a [u8]>, Refusal<BerError>>
+    pub fn optional_integer(&mut self) -> Result<Option<&'a [u8]>, ReadError<BerError>>
         ensures { ReadsOptional (λ v. v.now) (integers self.old.rules) 2 self.old result self.new }
     {
         if !self.is_next_type(Tag::Integer) {
@@ -69,7 +69,7 @@ impl<'a> Cursor<'a> {
     }
 
     /// The number of an INTEGER from 0 to 2^32-1, if it is next.
-    pub fn optional_u32(&mut self) -> Result<Option<u32>, Refusal<BerError>>
+    pub fn optional_u32(&mut self) -> Result<Option<u32>, ReadError<BerError>>
         ensures { ReadsOptional pos (numbers self.old.rules (unsigned 32)) 2 self.old result self.new }
     {
         if !self.is_next_type(Tag::Integer) {
@@ -83,7 +83,7 @@ impl<'a> Cursor<'a> {
     }
 
     /// The number of an INTEGER from 0 to 2^64-1, if it is next.
-    pub fn optional_u64(&mut self) -> Result<Option<u64>, Refusal<BerError>>
+    pub fn optional_u64(&mut self) -> Result<Option<u64>, ReadError<BerError>>
         ensures { ReadsOptional pos (numbers self.old.rules (unsigned 64)) 2 self.old result self.new }
     {
         if !self.is_next_type(Tag::Integer) {
@@ -97,7 +97,7 @@ impl<'a> Cursor<'a> {
     }
 
     /// The octets of an OCTET STRING, if it is next.
-    pub fn optional_octets(&mut self) -> Result<Option<&'a [u8]>, Refusal<BerError>>
+    pub fn optional_octets(&mut self) -> Result<Option<&'a [u8]>, ReadError<BerError>>
         ensures { ReadsOptional (λ v. v.now) octet_strings 4 self.old result self.new }
     {
         if !self.is_next_type(Tag::OctetString) {
@@ -111,7 +111,7 @@ impl<'a> Cursor<'a> {
     }
 
     /// The bits of a BIT STRING, if it is next.
-    pub fn optional_bits(&mut self) -> Result<Option<BitString<'a>>, Refusal<BerError>>
+    pub fn optional_bits(&mut self) -> Result<Option<BitString<'a>>, ReadError<BerError>>
         ensures { ReadsOptional (λ v. (v.unused, v.octets.now)) (bit_strings self.old.rules) 3
             self.old result self.new }
     {
@@ -126,7 +126,7 @@ impl<'a> Cursor<'a> {
     }
 
     /// An OBJECT IDENTIFIER, if it is next.
-    pub fn optional_oid(&mut self) -> Result<Option<ObjectIdentifier<'a>>, Refusal<BerError>>
+    pub fn optional_oid(&mut self) -> Result<Option<ObjectIdentifier<'a>>, ReadError<BerError>>
         ensures { ReadsOptional borrowed_octets identifiers 6 self.old result self.new }
     {
         if !self.is_next_type(Tag::Oid) {
@@ -140,7 +140,7 @@ impl<'a> Cursor<'a> {
     }
 
     /// The text of a UTF8String, if it is next.
-    pub fn optional_utf8_string(&mut self) -> Result<Option<&'a str>, Refusal<BerError>>
+    pub fn optional_utf8_string(&mut self) -> Result<Option<&'a str>, ReadError<BerError>>
         ensures { ReadsOptional (λ v. v.now) (texts 12) 12 self.old result self.new }
     {
         if !self.is_next_type(Tag::Utf8String) {
@@ -154,7 +154,7 @@ impl<'a> Cursor<'a> {
     }
 
     /// The time of a GeneralizedTime, if it is next.
-    pub fn optional_generalized_time(&mut self) -> Result<Option<ASN1DateTime>, Refusal<BerError>>
+    pub fn optional_generalized_time(&mut self) -> Result<Option<ASN1DateTime>, ReadError<BerError>>
         ensures { ReadsOptional (λ v. v) (times self.old.rules 24) 24 self.old result self.new }
     {
         if !self.is_next_type(Tag::GeneralizedTime) {
@@ -168,7 +168,7 @@ impl<'a> Cursor<'a> {
     }
 
     /// A BOOLEAN, or the default if none is next. By DER the default isn't encoded (11.5): BerValueError.
-    pub fn boolean_or(&mut self, default: bool) -> Result<bool, Refusal<BerError>>
+    pub fn boolean_or(&mut self, default: bool) -> Result<bool, ReadError<BerError>>
         ensures { ReadsOr (λ v. v) (booleans self.old.rules) 1 default self.old result self.new }
     {
         if !self.is_next_type(Tag::Boolean) {
@@ -189,7 +189,7 @@ impl<'a> Cursor<'a> {
 
     /// The number of an INTEGER from 0 to 2^32-1 or the default, as `boolean_or`: `version INTEGER DEFAULT 0` is
     /// `u32_or(0)`.
-    pub fn u32_or(&mut self, default: u32) -> Result<u32, Refusal<BerError>>
+    pub fn u32_or(&mut self, default: u32) -> Result<u32, ReadError<BerError>>
         ensures { ReadsOr pos (numbers self.old.rules (unsigned 32)) 2 default self.old result self.new }
     {
         if !self.is_next_type(Tag::Integer) {
@@ -209,7 +209,7 @@ impl<'a> Cursor<'a> {
     }
 
     /// The time of a UTCTime or a GeneralizedTime, whichever is next: `Time` of RFC 5280 (4.1).
-    pub fn time(&mut self) -> Result<ASN1DateTime, Refusal<BerError>>
+    pub fn time(&mut self) -> Result<ASN1DateTime, ReadError<BerError>>
         ensures { ReadsTime self.old result self.new }
     {
         if self.is_next_type(Tag::GeneralizedTime) {
@@ -220,7 +220,7 @@ impl<'a> Cursor<'a> {
     }
 
     /// The next element, whatever it is. Its content isn't checked.
-    pub fn any(&mut self) -> Result<Any<'a>, Refusal<BerError>>
+    pub fn any(&mut self) -> Result<Any<'a>, ReadError<BerError>>
         ensures { ReadsAnyAt self.old result self.new }
     {
         match read_any(self.rules, self.left) {

@@ -15,7 +15,7 @@ use Rattle.der_elements.specs.declared.content.End.TheVariants.{At, After, Unlim
 use Rattle.der_elements.specs.declared.content.Open.{Open}
 use Rattle.der_elements.specs.declared.element.Element.{Element}
 use Rattle.der_elements.specs.declared.path.Step.{Step}
-use Rattle.der_elements.specs.declared.refusal.Refusal.{Refusal}
+use Rattle.der_elements.specs.declared.error.ElementError.{ElementError}
 use Rattle.der_elements.specs.declared.walk.Walk.{Walk}
 use Rattle.der_elements.specs.Ends.{end_from, end_in, end_of, ends_at_marker, here_of, limit_of, octets_after, IsEndOf}
 use Rattle.der_elements.specs.Faults.{IsAtFault, ended}
@@ -68,26 +68,26 @@ goes_on x r vs w has stays some over = of (open_or_not has.walked) over
         let fits : w.at + 2 ≤ limit = omega (arith, ap length h, length-append end_marker z, length-here w) in
         stays so (w.at + 2) (inr (m, refl, limit_within (w.at + 2) size (end_of w) fits, omega (arith, fits, limit_size size (end_of w)), front_between w.input.now w.at limit end_marker z h))
 
-pub next_refused : (d : ℕ) (x : Extras) (r : Rules) (i : List ℕ) (vs : List Visited) (w : Walk) (f : Refusal) → HasVisited x r i w vs → StaysOpen w → (w.opened.items ≡ [] → here_of w ≡ [] → ⊥) → Refuses d w (here_of w) f
+pub next_refused : (d : ℕ) (x : Extras) (r : Rules) (i : List ℕ) (vs : List Visited) (w : Walk) (f : ElementError) → HasVisited x r i w vs → StaysOpen w → (w.opened.items ≡ [] → here_of w ≡ [] → ⊥) → Refuses d w (here_of w) f
     → HasVisited x r i w vs × Faults x d (position_of w) [] (option_to_list f.step) f
 next_refused d x r i vs w f has stays some g =
     let here_has = subst (λ l. HasVisited x r l w vs) (sym has.input) has in
     let fault = subst (λ z. IsAtFault z d (position_of w) (here_of w) f.cause) (extras_same x w has.enters has.keeps) g.fault in
     (has, first (goes_on x r vs w here_has stays some) (here fault g.place g.step refl refl))
 
-pub first_of : {x : Extras} {r : Rules} {i : List ℕ} {vs us : List Visited} {steps : List Step} {f : Refusal} (d : ℕ) (w : Walk) → Lowers x d → (x.enters_strings ≡ true → d ≡ 101) → HasVisited x r i w vs → All (IsShallow d) vs → Faults x d (position_of w) us steps f
+pub first_of : {x : Extras} {r : Rules} {i : List ℕ} {vs us : List Visited} {steps : List Step} {f : ElementError} (d : ℕ) (w : Walk) → Lowers x d → (x.enters_strings ≡ true → d ≡ 101) → HasVisited x r i w vs → All (IsShallow d) vs → Faults x d (position_of w) us steps f
     → Faults x d (start r i) (vs ++ us) (steps_of w.opened.items ++ steps) f
 first_of {x} {r} {i} {vs} {us} {steps} {f} d w low full has h g =
     let here_has = subst (λ l. HasVisited x r l w vs) (sym has.input) has in
     subst (λ l. Faults x d (start r l) (vs ++ us) (steps_of w.opened.items ++ steps) f) has.input (leads d low full w.content.end w.content.visited here_has.walked h here_has.ends_around refl here_has.end here_has.counts g)
 
-refused : (x : Extras) (r : Rules) (i : List ℕ) (vs : List Visited) (w : Walk) (f : Refusal) → HasVisited x r i w vs → Faults x 101 (position_of w) [] (option_to_list f.step) f → IsRefused x r i vs w f
+refused : (x : Extras) (r : Rules) (i : List ℕ) (vs : List Visited) (w : Walk) (f : ElementError) → HasVisited x r i w vs → Faults x 101 (position_of w) [] (option_to_list f.step) f → IsRefused x r i vs w f
 refused x r i vs w f has g =
     let all = first_of 101 w (lowers_none x) (λ _. refl) has (all_shallow has.walked) g in
     let one = subst (λ l. Faults x 101 (start r i) l (steps_of w.opened.items ++ option_to_list f.step) f) (append-nil vs) all in
     record { visited = has; never = λ us whole. no_first_fault 101 refl whole one; first = one }
 
-pub next_so : (x : Extras) (r : Rules) (i : List ℕ) (vs : List Visited) (w : Walk) (q : Result (Option Element) Refusal) → VisitsTo 101 x r i vs w q → VisitsNext x r i vs w q
+pub next_so : (x : Extras) (r : Rules) (i : List ℕ) (vs : List Visited) (w : Walk) (q : Result (Option Element) ElementError) → VisitsTo 101 x r i vs w q → VisitsNext x r i vs w q
 next_so x r i vs w (Ok (Some e)) h = (h.0, h.1, h.2, omega (arith, h.3))
 next_so x r i vs w (Ok None) h = h
 next_so x r i vs w (Err f) h = refused x r i vs w f h.0 h.1
@@ -109,13 +109,13 @@ nothing_whole {vs = vs} d i y never h (one_more b rest us ws ei ev one more) e =
     absurd (never (rest ++ y) (b, e ∙ ap (λ l. l ++ y) ei ∙ append_assoc b rest y, shallow_element d no_extra shallow one))
 
 -- there are no octets
-pub nothing_there : (r : Rules) (d : ℕ) (i : List ℕ) (f : Refusal) → i ≡ [] → f ≡ record { offset = 0; step = None; cause = Cut 2 } → IsFirstFaultOf r d i f
+pub nothing_there : (r : Rules) (d : ℕ) (i : List ℕ) (f : ElementError) → i ≡ [] → f ≡ record { offset = 0; step = None; cause = Cut 2 } → IsFirstFaultOf r d i f
 nothing_there r d i f e ef =
     let none_there = octets_all r i ∙ e in
     ([], [], subst (λ g. FaultsOne no_extras d (start r i) [] [] g) (sym ef) (here (ended none_there refl) refl (λ v spells. absurd (omega (arith, ap length none_there, header_two r _ v spells))) refl refl))
 
 -- the first element has the fault
-pub one_of : (r : Rules) (d : ℕ) (i : List ℕ) (vs : List Visited) (steps : List Step) (f : Refusal) → BeginsNothing r d i → Faults no_extras d (start r i) vs steps f → IsFirstFaultOf r d i f
+pub one_of : (r : Rules) (d : ℕ) (i : List ℕ) (vs : List Visited) (steps : List Step) (f : ElementError) → BeginsNothing r d i → Faults no_extras d (start r i) vs steps f → IsFirstFaultOf r d i f
 one_of r d i vs steps f never (first stays g) = (vs, steps, g)
 one_of r d i vs steps f never (later n b rest us ws en e one more ev) =
     let all = All-weaker (LiesWithin 0 (0 + length b) 0 n) (IsShallow (0 + d)) (λ u p. omega (arith, p.4, en)) us (one_within one) in

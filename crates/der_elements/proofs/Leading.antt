@@ -10,7 +10,7 @@ use Rattle.der_elements.specs.declared.content.End.{End}
 use Rattle.der_elements.specs.declared.content.End.TheVariants.{At, Unlimited}
 use Rattle.der_elements.specs.declared.content.Open.{Open}
 use Rattle.der_elements.specs.declared.path.Step.{Step}
-use Rattle.der_elements.specs.declared.refusal.Refusal.{Refusal}
+use Rattle.der_elements.specs.declared.error.ElementError.{ElementError}
 use Rattle.der_elements.specs.Ends.{between, end_from, end_in, ends_at_marker, limit_of, octets_after, EndsWithin, IsEndOf, IsWithin}
 use Rattle.der_elements.specs.Faults.{Position, IsStep, end_at, octets_at}
 use Rattle.der_elements.specs.FirstFault.{Faults, IsOver, IsShallow, behind, end_behind, first, inner, later, no_extras, start}
@@ -98,7 +98,7 @@ counted_nothing k j = refl
 
 -- behind elements
 
-behind_all : {x : Extras} {n : ℕ} {w : List ℕ} {us vs : List Visited} {steps : List Step} {f : Refusal} (d : ℕ) → Lowers x d → (p : Position) (z : List ℕ) (at j : ℕ) → n + p.depth ≡ 101 → octets_at p ≡ w ++ z → at ≡ p.at + length w
+behind_all : {x : Extras} {n : ℕ} {w : List ℕ} {us vs : List Visited} {steps : List Step} {f : ElementError} (d : ℕ) → Lowers x d → (p : Position) (z : List ℕ) (at j : ℕ) → n + p.depth ≡ 101 → octets_at p ≡ w ++ z → at ≡ p.at + length w
     → j ≡ counted_in p.depth p.index us → All (IsShallow d) us → Visits x p.rules n p.depth p.at w us → Faults x d (record p { at = at; index = j }) vs steps f → Faults x d p (us ++ vs) steps f
 behind_all {x} {n} {w} {us} {vs} {steps} {f} d low p z at j en e ea ej h none g =
     let a : at ≡ p.at = omega (arith, ea) in
@@ -211,7 +211,7 @@ module _ (x : Extras) (i : List ℕ) (n : ℕ) (opens outer : List Open) (o : Op
         holds_none (Some k) q1 = absurd (cc)
 
     -- a list
-    pub in_list : (d : ℕ) {us : List Visited} {steps : List Step} {f : Refusal} → v.constructed ≡ true → length outer < d → IsStep o.step v.class v.number j → Faults x d content us steps f → Faults x d q (v ∷ us) (o.step ∷ steps) f
+    pub in_list : (d : ℕ) {us : List Visited} {steps : List Step} {f : ElementError} → v.constructed ≡ true → length outer < d → IsStep o.step v.class v.number j → Faults x d content us steps f → Faults x d q (v ∷ us) (o.step ∷ steps) f
     in_list d {us} {steps} {f} ep shallow step g =
         let l = is.list ep in
         let there : st + length h ≤ limit = limit_least (st + length h) (length i) (end_in (length i) o.around.end) (omega (arith, l.2, is.header.header, hf, hl))
@@ -227,7 +227,7 @@ module _ (x : Extras) (i : List ℕ) (n : ℕ) (opens outer : List Open) (o : Op
         not_over some is1 z split (inr (a, y, e0)) = header_no_marker o.around.rules v.class true v.number v.length h z y is1 (λ t. absurd (cc)) (sym split ∙ e0)
 
     -- a string has no fault
-    pub in_string : {us : List Visited} {steps : List Step} {f : Refusal} → v.constructed ≡ false → n + suc (length outer) ≡ 101 → Faults x 101 content us steps f → ⊥
+    pub in_string : {us : List Visited} {steps : List Step} {f : ElementError} → v.constructed ≡ false → n + suc (length outer) ≡ 101 → Faults x 101 content us steps f → ⊥
     in_string {us} {steps} {f} ep en g =
         let (enters, last, e1, m1, h1, one) = is.string ep in
         let ending_so : end ≡ At last = at_last end last (ee ∙ e1) ending h1 in
@@ -243,7 +243,7 @@ module _ (x : Extras) (i : List ℕ) (n : ℕ) (opens outer : List Open) (o : Op
         at_last : (z : End) (k : ℕ) → end_in (length i) z ≡ Some k → IsEndOf (length i) z → k ≤ length i → z ≡ At k
         at_last z k q1 q2 q3 = end_same z (At k) (length i) q1 q2 q3
 
-pub leads : {x : Extras} {r : Rules} {i : List ℕ} {n : ℕ} {opens : List Open} {s : Rules} {e : Option ℕ} {m : Bool} {at : ℕ} {vs us : List Visited} {steps : List Step} {f : Refusal} (d : ℕ) → Lowers x d → (x.enters_strings ≡ true → d ≡ 101) → (end : End) (j : ℕ)
+pub leads : {x : Extras} {r : Rules} {i : List ℕ} {n : ℕ} {opens : List Open} {s : Rules} {e : Option ℕ} {m : Bool} {at : ℕ} {vs us : List Visited} {steps : List Step} {f : ElementError} (d : ℕ) → Lowers x d → (x.enters_strings ≡ true → d ≡ 101) → (end : End) (j : ℕ)
     → HasWalked x r i n opens s e m at vs → All (IsShallow d) vs → ((outer inner : List Open) (o : Open) → opens ≡ outer ++ o ∷ inner → IsEndOf (length i) o.around.end) → end_in (length i) end ≡ e → IsEndOf (length i) end → j ≡ index_in (length opens) vs
     → Faults x d (stand i at s end m j opens) us steps f → Faults x d (start r i) (vs ++ us) (steps_of opens ++ steps) f
 leads {x} {r} {i} {n} {opens} {s} {e} {m} {at} {vs} {us} {steps} {f} d low full end j (outermost ed eo es he hm ha v) h arounds ee ending ej g =

@@ -14,7 +14,7 @@ use Rattle.der_contents.specs.ContentRules.{IsContent}
 use Rattle.der_elements.specs.declared.content.End.{End}
 use Rattle.der_elements.specs.declared.content.End.TheVariants.{At, After, Unlimited}
 use Rattle.der_elements.specs.declared.path.Step.{Step}
-use Rattle.der_elements.specs.declared.refusal.Refusal.{Refusal}
+use Rattle.der_elements.specs.declared.error.ElementError.{ElementError}
 use Rattle.der_elements.specs.Ends.{between, end_in, limit_of, octets_after, IsEndOf}
 use Rattle.der_elements.specs.Faults.{Position, end_at, octets_at}
 use Rattle.der_elements.specs.FirstFault.{Faults, FaultsOne, IsOver, behind, end_for, first, here, inner, inside, later, start}
@@ -92,7 +92,7 @@ definite_inside p h w z some e = (octets, inl (refl, ap octets_after is, ap (λ 
     octets = ap (λ q. between i (p.at + length h) (limit_of size (end_in size q))) is ∙ ap (λ n. between i (p.at + length h) n) limit ∙ middle_between i p.at around h w z e
 
 mutual
-  pub no_fault : {x : Extras} {n : ℕ} {w : List ℕ} {us vs : List Visited} {steps : List Step} {f : Refusal} (d : ℕ) (p : Position) (z : List ℕ) → n + p.depth ≡ d → octets_at p ≡ w ++ z → IsOver (record p { at = p.at + length w })
+  pub no_fault : {x : Extras} {n : ℕ} {w : List ℕ} {us vs : List Visited} {steps : List Step} {f : ElementError} (d : ℕ) (p : Position) (z : List ℕ) → n + p.depth ≡ d → octets_at p ≡ w ++ z → IsOver (record p { at = p.at + length w })
       → Visits x p.rules n p.depth p.at w us → Faults x d p vs steps f → ⊥
   no_fault d p z en e over none (first stays one) = stays (over_at p (p.at + 0) p.at (omega arith) over)
   no_fault d p z en e over none (later n b rest us ws ed eb one more ev) = not_over p rest eb one (over_at p (p.at + 0) p.at (omega arith) over)
@@ -106,7 +106,7 @@ mutual
       no_fault d (behind p (length b)) z en (between_rest p.input p.at (limit_of (length p.input) (end_at p)) b (rest ++ z) split) (over_at p (p.at + length w) (p.at + length b + length rest) last over) more
       (subst (λ q. Faults x d (behind p q) ws' steps f) size more')
 
-  pub no_fault_one : {x : Extras} {n : ℕ} {b : List ℕ} {us vs : List Visited} {steps : List Step} {f : Refusal} (d : ℕ) (p : Position) (z : List ℕ) → n + p.depth ≡ d → octets_at p ≡ b ++ z → VisitsOne x p.rules n p.depth p.at b us
+  pub no_fault_one : {x : Extras} {n : ℕ} {b : List ℕ} {us vs : List Visited} {steps : List Step} {f : ElementError} (d : ℕ) (p : Position) (z : List ℕ) → n + p.depth ≡ d → octets_at p ≡ b ++ z → VisitsOne x p.rules n p.depth p.at b us
       → FaultsOne x d p vs steps f → ⊥
   no_fault_one {x} d p z en e one (here fault eo es ev ep) = none_at_fault x d p (octets_at p) z en e one fault
   no_fault_one {b = b} d p z en e (primitive c t h w is eb has out ev) (inner c' t' n' h' rest' s us more is' e' room deep may g st ev' es) =
@@ -136,7 +136,7 @@ mutual
 pub octets_all : (r : Rules) (i : List ℕ) → octets_at (start r i) ≡ i
 octets_all r i = between_all i (length i) (omega arith)
 
-pub no_first_fault : {x : Extras} {r : Rules} {n : ℕ} {i : List ℕ} {us vs : List Visited} {steps : List Step} {f : Refusal} (d : ℕ) → n ≡ d → Visits x r n 0 0 i us → Faults x d (start r i) vs steps f → ⊥
+pub no_first_fault : {x : Extras} {r : Rules} {n : ℕ} {i : List ℕ} {us vs : List Visited} {steps : List Step} {f : ElementError} (d : ℕ) → n ≡ d → Visits x r n 0 0 i us → Faults x d (start r i) vs steps f → ⊥
 no_first_fault {r = r} {i = i} d en all g =
     let last : 0 + length i ≡ length i = omega arith in
     no_fault d (start r i) [] (omega (arith, en)) (octets_all r i ∙ sym (append-nil i)) (inl (refl, refl, ap (λ n. between i n (length i)) last ∙ between_none i (length i))) all g
@@ -180,9 +180,9 @@ visited_one x (suc d) r b k a (indefinite_element c t w l er e may are) never =
     visited_all x r d w (suc k) (a + length h) (visited_one x d) are (λ us inside. never _ (indefinite c t h w us (l, er, refl, refl) (e ∙ sym (joined c t w)) may inside refl))
 
 -- octets with a first fault are no elements
-pub faults_never : (x : Extras) (r : Rules) (d : ℕ) (i : List ℕ) (vs : List Visited) (steps : List Step) (f : Refusal) → Faults x d (start r i) vs steps f → AreElements r d i → ⊥
+pub faults_never : (x : Extras) (r : Rules) (d : ℕ) (i : List ℕ) (vs : List Visited) (steps : List Step) (f : ElementError) → Faults x d (start r i) vs steps f → AreElements r d i → ⊥
 faults_never x r d i vs steps f g are = visited_all x r d i 0 0 (visited_one x d) are (λ us all. no_first_fault d refl all g)
 
 -- and those that an element begins have none there
-pub faults_never_of : (x : Extras) (r : Rules) (d : ℕ) (i b rest : List ℕ) (vs : List Visited) (steps : List Step) (f : Refusal) → FaultsOne x d (start r i) vs steps f → i ≡ b ++ rest → IsElement r d b → ⊥
+pub faults_never_of : (x : Extras) (r : Rules) (d : ℕ) (i b rest : List ℕ) (vs : List Visited) (steps : List Step) (f : ElementError) → FaultsOne x d (start r i) vs steps f → i ≡ b ++ rest → IsElement r d b → ⊥
 faults_never_of x r d i b rest vs steps f g e one = visited_one x d r b 0 0 one (λ us is. no_fault_one d (start r i) rest (omega arith) (octets_all r i ∙ e) is g)

@@ -27,7 +27,7 @@ use Rattle.der_contents.specs.declared.content_error.ContentError.{ContentError}
 use Rattle.der_elements.specs.declared.cause.Cause.{Cause}
 use Rattle.der_elements.specs.declared.cause.Cause.TheVariants.{EndMarker, Value, Constructed, ConstructedString, TooDeep}
 use Rattle.der_elements.specs.declared.path.Step.{Step}
-use Rattle.der_elements.specs.declared.refusal.Refusal.{Refusal}
+use Rattle.der_elements.specs.declared.error.ElementError.{ElementError}
 use Rattle.der_elements.specs.Ends.{IsWithin, overrun}
 use Rattle.der_elements.specs.Faults.{Position, HasRoom, IsAtFault, IsLastStep, IsStep, ended, header, content, too_deep, string, constructed, marker, value, cause_of_content, cause_of_end, cause_of_header, content_at, end_at, octets_at, place_of}
 use Rattle.der_elements.specs.FirstFault.{Faults, FaultsOne, behind, first, here, inner, inside, later}
@@ -240,15 +240,15 @@ module _ (x : Extras) (d : ℕ) (p : Position) (octets : List ℕ)
         pub no_list_here : {k : Cause} → IsAtFault x d p octets k → ⊥
         no_list_here g = no_list (cases g)
 
-refusal_same : (f f' : Refusal) → f.offset ≡ f'.offset → f.step ≡ f'.step → f.cause ≡ f'.cause → f ≡ f'
+refusal_same : (f f' : ElementError) → f.offset ≡ f'.offset → f.step ≡ f'.step → f.cause ≡ f'.cause → f ≡ f'
 refusal_same f f' e1 e2 e3 =
     let z : record { offset = f.offset; step = f.step; cause = f.cause } ≡ record { offset = f'.offset; step = f'.step; cause = f'.cause } = cc in z
 
-abbrev Same : List Visited → List Visited → List Step → List Step → Refusal → Refusal → Type 0
+abbrev Same : List Visited → List Visited → List Step → List Step → ElementError → ElementError → Type 0
 Same vs vs' steps steps' f f' = (vs ≡ vs') × (steps ≡ steps') × (f ≡ f')
 
 mutual
-  pub faults_same : {x : Extras} {vs vs' : List Visited} {steps steps' : List Step} {f f' : Refusal} (d : ℕ) (p : Position) → Faults x d p vs steps f → Faults x d p vs' steps' f' → Same vs vs' steps steps' f f'
+  pub faults_same : {x : Extras} {vs vs' : List Visited} {steps steps' : List Step} {f f' : ElementError} (d : ℕ) (p : Position) → Faults x d p vs steps f → Faults x d p vs' steps' f' → Same vs vs' steps steps' f f'
   faults_same d p (first stays g) (first stays' g') = one_faults_same d p g g'
   faults_same d p (first stays g) (later n b rest us ws en e one more ev) = absurd (no_fault_one d p rest en e one g)
   faults_same d p (later n b rest us ws en e one more ev) (first stays g) = absurd (no_fault_one d p rest en e one g)
@@ -259,7 +259,7 @@ mutual
       let g = faults_same d (behind p (length b)) more (subst (λ q. Faults x d (behind p q) ws' steps' f') size more') in
       (ev ∙ ap (λ l. l ++ ws) o.1 ∙ ap (λ l. us' ++ l) g.0 ∙ sym ev', g.1, g.2)
 
-  pub one_faults_same : {x : Extras} {vs vs' : List Visited} {steps steps' : List Step} {f f' : Refusal} (d : ℕ) (p : Position) → FaultsOne x d p vs steps f → FaultsOne x d p vs' steps' f' → Same vs vs' steps steps' f f'
+  pub one_faults_same : {x : Extras} {vs vs' : List Visited} {steps steps' : List Step} {f f' : ElementError} (d : ℕ) (p : Position) → FaultsOne x d p vs steps f → FaultsOne x d p vs' steps' f' → Same vs vs' steps steps' f f'
   one_faults_same {x} {vs} {vs'} {steps} {steps'} {f} {f'} d p (here g eo st ev es) (here g' eo' st' ev' es') =
       let c : f.cause ≡ f'.cause = one_cause x d p (octets_at p) g g' in
       let s : f.step ≡ f'.step = one_step x d p (octets_at p) f.step f'.step st st' in

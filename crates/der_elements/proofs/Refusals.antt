@@ -25,7 +25,7 @@ use Rattle.der_elements.specs.declared.content.End.{End}
 use Rattle.der_elements.specs.declared.content.End.TheVariants.{At, After, Unlimited}
 use Rattle.der_elements.specs.declared.element.Element.{Element}
 use Rattle.der_elements.specs.declared.path.Step.{Step}
-use Rattle.der_elements.specs.declared.refusal.Refusal.{Refusal}
+use Rattle.der_elements.specs.declared.error.ElementError.{ElementError}
 use Rattle.der_elements.specs.declared.walk.Walk.{Walk}
 use Rattle.der_elements.specs.Ends.{between, end_of, here_of, limit_of, overrun, IsWithin}
 use Rattle.der_elements.specs.Faults.{Position, HasRoom, IsReached, IsLastStep, IsStep, ended, header, content, too_deep, string, constructed, marker, value, cause_of_content, cause_of_end, cause_of_header, cause_of_lack, content_at, end_at, ends_inside, missing_in, place_of}
@@ -60,11 +60,11 @@ at_content p end n = of (overrun end (end_at p) == 0)
     of true = refl
     of false = refl
 
-placed : (p : Position) (f : Refusal) (c : Cause) → place_of p c ≡ p.at → f.cause ≡ c → f.offset ≡ p.at → f.offset ≡ place_of p f.cause
+placed : (p : Position) (f : ElementError) (c : Cause) → place_of p c ≡ p.at → f.cause ≡ c → f.offset ≡ p.at → f.offset ≡ place_of p f.cause
 placed p f c h e q = q ∙ sym h ∙ ap (λ z. place_of p z) (sym e)
 
 -- without a header
-pub refuses_header : (d : ℕ) (w : Walk) (here : List ℕ) (e : Refused BerError) (f : Refusal) → here ≢ [] → AnswersHeader w.content.rules here (Err e) → f.cause ≡ cause_of_header (position_of w) e → f.offset ≡ w.at → f.step ≡ None → Refuses d w here f
+pub refuses_header : (d : ℕ) (w : Walk) (here : List ℕ) (e : Refused BerError) (f : ElementError) → here ≢ [] → AnswersHeader w.content.rules here (Err e) → f.cause ≡ cause_of_header (position_of w) e → f.offset ≡ w.at → f.step ≡ None → Refuses d w here f
 refuses_header d w here e f some a ec eo es = record {
   fault = header e some a ec;
   place = placed (position_of w) f (cause_of_header (position_of w) e) (at_header (position_of w) e) ec eo;
@@ -72,7 +72,7 @@ refuses_header d w here e f some a ec eo es = record {
 }
 
 -- without octets
-pub refuses_end : (d : ℕ) (w : Walk) (here : List ℕ) (f : Refusal) → here ≡ [] → f.cause ≡ cause_of_end (position_of w) → f.offset ≡ place_of (position_of w) f.cause → f.step ≡ None → Refuses d w here f
+pub refuses_end : (d : ℕ) (w : Walk) (here : List ℕ) (f : ElementError) → here ≡ [] → f.cause ≡ cause_of_end (position_of w) → f.offset ≡ place_of (position_of w) f.cause → f.step ≡ None → Refuses d w here f
 refuses_end d w here f e ec eo es = record {
   fault = ended e ec;
   place = eo;
@@ -83,7 +83,7 @@ definite_back : (l : Length) (n : ℕ) → definite_of l ≡ Some n → l ≡ De
 definite_back (Definite m) n e = (cc)
 definite_back Indefinite n e = absurd (cc)
 
-module _ (d : ℕ) (w : Walk) (here : List ℕ) (y : Bor (List ℕ) × Header) (e : Element) (f : Refusal) (a : AnswersHeader w.content.rules here (Ok y)) (s : StartsWith y.1 (length here - length y.0.now) w.at (length w.opened.items) w.content.visited e)
+module _ (d : ℕ) (w : Walk) (here : List ℕ) (y : Bor (List ℕ) × Header) (e : Element) (f : ElementError) (a : AnswersHeader w.content.rules here (Ok y)) (s : StartsWith y.1 (length here - length y.0.now) w.at (length w.opened.items) w.content.visited e)
   where
     abbrev v : LeadingHeader
     v = leading_header y

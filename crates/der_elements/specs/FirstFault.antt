@@ -9,7 +9,7 @@ use Rattle.der_elements.specs.Check.Elements.{MayBeConstructed}
 use Rattle.der_elements.specs.declared.content.End.{End}
 use Rattle.der_elements.specs.declared.content.End.TheVariants.{At, After, Unlimited}
 use Rattle.der_elements.specs.declared.path.Step.{Step}
-use Rattle.der_elements.specs.declared.refusal.Refusal.{Refusal}
+use Rattle.der_elements.specs.declared.error.ElementError.{ElementError}
 use Rattle.der_elements.specs.Ends.{IsWithin, ends_at_marker, octets_after}
 use Rattle.der_elements.specs.Faults.{Position, IsAtFault, IsLastStep, IsStep, end_at, octets_at, place_of}
 use Rattle.der_elements.specs.Visits.{Visited, Extras, IsHeaderBy, VisitsOne, visited}
@@ -69,22 +69,22 @@ IsOver p = ((p.has_marker ≡ false) × (octets_after p.end ≡ 0) × (octets_at
 mutual
   -- The first fault of the rest of a content, whose elements should have fewer than d elements around them. The
   -- elements vs are visited before it. The steps are the path to it.
-  pub data Faults (x : Extras) (d : ℕ) : Position → List Visited → List Step → Refusal → Type 0 where
-    first : {p : Position} {vs : List Visited} {steps : List Step} {f : Refusal} → ¬ IsOver p
+  pub data Faults (x : Extras) (d : ℕ) : Position → List Visited → List Step → ElementError → Type 0 where
+    first : {p : Position} {vs : List Visited} {steps : List Step} {f : ElementError} → ¬ IsOver p
         → FaultsOne x d p vs steps f → Faults x d p vs steps f
     -- the octets b are a valid element before the fault
-    later : {p : Position} {vs : List Visited} {steps : List Step} {f : Refusal} (n : ℕ) (b rest : List ℕ)
+    later : {p : Position} {vs : List Visited} {steps : List Step} {f : ElementError} (n : ℕ) (b rest : List ℕ)
         (us ws : List Visited) → n + p.depth ≡ d → octets_at p ≡ b ++ rest
         → VisitsOne x p.rules n p.depth p.at b us → Faults x d (behind p (length b)) ws steps f → vs ≡ us ++ ws
         → Faults x d p vs steps f
 
   -- The first fault of the element that should begin at a position.
-  pub data FaultsOne (x : Extras) (d : ℕ) : Position → List Visited → List Step → Refusal → Type 0 where
-    here : {p : Position} {vs : List Visited} {steps : List Step} {f : Refusal}
+  pub data FaultsOne (x : Extras) (d : ℕ) : Position → List Visited → List Step → ElementError → Type 0 where
+    here : {p : Position} {vs : List Visited} {steps : List Step} {f : ElementError}
         → IsAtFault x d p (octets_at p) f.cause → f.offset ≡ place_of p f.cause → IsLastStep p (octets_at p) f.step
         → vs ≡ [] → steps ≡ option_to_list f.step → FaultsOne x d p vs steps f
     -- the fault is in the content of a constructed element
-    inner : {p : Position} {vs : List Visited} {steps : List Step} {f : Refusal} (c : Class) (t : ℕ) (n : Option ℕ)
+    inner : {p : Position} {vs : List Visited} {steps : List Step} {f : ElementError} (c : Class) (t : ℕ) (n : Option ℕ)
         (h rest : List ℕ) (s : Step) (us : List Visited) (more : List Step)
         → IsHeaderBy p.rules c true t n h → octets_at p ≡ h ++ rest
         → IfSome n (λ m. IsWithin (p.at + length h + m) (end_at p)) → p.depth < d → MayBeConstructed p.rules c t
@@ -92,9 +92,9 @@ mutual
         → vs ≡ visited p.at p.depth c true t h n ∷ us → steps ≡ s ∷ more → FaultsOne x d p vs steps f
 
 -- f is the first fault of an input. The elements vs are visited before it, and the steps are the path to it.
-abbrev pub IsFirstFault : Extras → Rules → List ℕ → List Visited → List Step → Refusal → Type 0
+abbrev pub IsFirstFault : Extras → Rules → List ℕ → List Visited → List Step → ElementError → Type 0
 IsFirstFault x r i vs steps f = Faults x 101 (start r i) vs steps f
 
 -- f is the first fault of the element that begins the octets i, which isn't valid to depth d
-abbrev pub IsFirstFaultOf : Rules → ℕ → List ℕ → Refusal → Type 0
+abbrev pub IsFirstFaultOf : Rules → ℕ → List ℕ → ElementError → Type 0
 IsFirstFaultOf r d i f = (vs : List Visited) × (steps : List Step) × FaultsOne no_extras d (start r i) vs steps f

@@ -6,7 +6,7 @@ use Rattle.der_base.specs.declared.header.Length.TheVariants.{Definite}
 use Rattle.der_base.specs.declared.rules.Rules.TheVariants.{Ber}
 use Rattle.der_base.specs.Header.{class_of, is_constructed, length_of, number_of}
 use Rattle.der_elements.specs.Check.Elements.{IsElement}
-use Rattle.der_elements.specs.declared.refusal.Refusal.{Refusal}
+use Rattle.der_elements.specs.declared.error.ElementError.{ElementError}
 use Rattle.der_elements.specs.FirstFault.{IsFirstFaultOf}
 use Rattle.der_elements.specs.Visits.{Visited, IsHeaderBy, IsStringFront}
 
@@ -25,7 +25,7 @@ pub record FaultsAt (t : ℕ) (w : List ℕ) (at n : ℕ) : Type 0 where
   pub is_front : IsStringFront t front
   pub frame : IsListFrame list
   pub no_element : ¬ IsElement Ber 101 list
-  pub fault : Refusal
+  pub fault : ElementError
   pub first : IsFirstFaultOf Ber 101 list fault
   pub place : n ≡ min (at + length front + fault.offset) (2 ^ 64 - 1)
 

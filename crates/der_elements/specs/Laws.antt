@@ -6,7 +6,7 @@ use Rattle.der_base.specs.declared.rules.Rules.TheVariants.{Ber}
 use Rattle.der_elements.specs.Check.Elements.{AreElements}
 use Rattle.der_elements.specs.Check.Readers.{BeginsWithElement}
 use Rattle.der_elements.specs.declared.path.Step.{Step}
-use Rattle.der_elements.specs.declared.refusal.Refusal.{Refusal}
+use Rattle.der_elements.specs.declared.error.ElementError.{ElementError}
 use Rattle.der_elements.specs.FirstFault.{IsFirstFault, IsFirstFaultOf}
 use Rattle.der_elements.specs.Visits.{Visited, Extras, Visits}
 
@@ -32,19 +32,19 @@ VisitsOnce = (x : Extras) (r : Rules) (d k a : ℕ) (i : List ℕ) (vs vs' : Lis
 
 -- an input has one first fault, at one offset, with one cause and path, after the same elements
 abbrev pub FaultsOnce : Type 0
-FaultsOnce = (x : Extras) (r : Rules) (i : List ℕ) (vs vs' : List Visited) (steps steps' : List Step) (f f' : Refusal)
+FaultsOnce = (x : Extras) (r : Rules) (i : List ℕ) (vs vs' : List Visited) (steps steps' : List Step) (f f' : ElementError)
     → IsFirstFault x r i vs steps f → IsFirstFault x r i vs' steps' f' → (vs ≡ vs') × (steps ≡ steps') × (f ≡ f')
 
 -- octets that should begin with an element have one first fault
 abbrev pub FaultsOfOnce : Type 0
-FaultsOfOnce = (r : Rules) (d : ℕ) (i : List ℕ) (f f' : Refusal) → IsFirstFaultOf r d i f → IsFirstFaultOf r d i f'
+FaultsOfOnce = (r : Rules) (d : ℕ) (i : List ℕ) (f f' : ElementError) → IsFirstFaultOf r d i f → IsFirstFaultOf r d i f'
     → f ≡ f'
 
 -- valid elements have no fault
 abbrev pub FaultsNever : Type 0
-FaultsNever = (x : Extras) (r : Rules) (i : List ℕ) (vs : List Visited) (steps : List Step) (f : Refusal)
+FaultsNever = (x : Extras) (r : Rules) (i : List ℕ) (vs : List Visited) (steps : List Step) (f : ElementError)
     → IsFirstFault x r i vs steps f → ¬ AreElements r 101 i
 
 -- octets that begin with a valid element have no fault
 abbrev pub FaultsOfNever : Type 0
-FaultsOfNever = (r : Rules) (d : ℕ) (i rest : List ℕ) (f : Refusal) → IsFirstFaultOf r d i f → ¬ BeginsWithElement r d i rest
+FaultsOfNever = (r : Rules) (d : ℕ) (i rest : List ℕ) (f : ElementError) → IsFirstFaultOf r d i f → ¬ BeginsWithElement r d i rest

@@ -26,7 +26,7 @@ use Rattle.der_elements.specs.declared.walk.Walk.{Walk}
 use Rattle.der_elements.specs.Visits.{Visited, Extras, Visits, VisitsOne, IsHeaderBy, IsStringFront, HoldsElement}
 use Rattle.der_elements.specs.Visits.{IsFirstOf}
 use Rattle.der_elements.specs.declared.content.End.{End}
-use Rattle.der_elements.specs.declared.refusal.Refusal.{Refusal}
+use Rattle.der_elements.specs.declared.error.ElementError.{ElementError}
 use Rattle.der_elements.specs.Ends.{between, end_from, end_in, end_of, ends_at_marker, limit_of, overrun, IsEndOf}
 use Rattle.der_elements.specs.Ends.{IsWithin}
 use Rattle.der_elements.specs.Faults.{IsAtFault, IsLastStep, IsStep, cause_of_content, place_of}
@@ -187,20 +187,20 @@ Passes w e w' = let p = e.offset + e.header in
     × GoesOn w (limit_of (length w.input.now) (end_from p (end_of w) e.length)) w'))
 
 -- the octets here are rejected, or begin with an element that has d others around it
-pub record Refuses (d : ℕ) (w : Walk) (here : List ℕ) (f : Refusal) : Type 0 where
+pub record Refuses (d : ℕ) (w : Walk) (here : List ℕ) (f : ElementError) : Type 0 where
   pub fault : IsAtFault (extras_of w) d (position_of w) here f.cause
   pub place : f.offset ≡ place_of (position_of w) f.cause
   pub step : IsLastStep (position_of w) here f.step
 
 -- like VisitsNext, for elements with fewer than d others around them
-abbrev pub VisitsTo : ℕ → Extras → Rules → List ℕ → List Visited → Walk → Result (Option Element) Refusal → Type 0
+abbrev pub VisitsTo : ℕ → Extras → Rules → List ℕ → List Visited → Walk → Result (Option Element) ElementError → Type 0
 VisitsTo d x r i vs w (Ok (Some e)) = HasVisited x r i w (vs ++ visited_of e ∷ []) × HasOctets i e
     × (e.index ≡ index_in e.depth vs) × (e.depth < d)
 VisitsTo d x r i vs w (Ok None) = Visits x r 101 0 0 i vs
 VisitsTo d x r i vs w (Err f) = HasVisited x r i w vs × Faults x d (position_of w) [] (option_to_list f.step) f
 
 -- the content of e ends after that around it, or e is primitive and not all of its content is here
-pub record LacksContent (w : Walk) (here : List ℕ) (e : Element) (f : Refusal) : Type 0 where
+pub record LacksContent (w : Walk) (here : List ℕ) (e : Element) (f : ElementError) : Type 0 where
   pub size : ℕ
   pub length_is : e.length ≡ Some size
   pub lacks : length here < size
@@ -226,7 +226,7 @@ FailsPrimitive w e c = (e.constructed ≡ false) × (e.class ≡ Universal) × (
     × IsFirstBroken (content_rules w.content.rules e.number (octets_or_none e.content)) f × (c ≡ Value f)))
 
 -- the element e itself is rejected
-pub record FailsCheck (w : Walk) (e : Element) (f : Refusal) : Type 0 where
+pub record FailsCheck (w : Walk) (e : Element) (f : ElementError) : Type 0 where
   pub fails : FailsConstructed w.content.rules e f.cause ⊎ FailsPrimitive w e f.cause
   pub offset : f.offset ≡ e.offset
   pub step : IsSomeAnd f.step (λ s. IsStep s e.class e.number e.index)

@@ -11,7 +11,7 @@ use Rattle.der_elements.specs.declared.content.Open.{Open}
 use Rattle.der_elements.specs.declared.element.Element.{Element}
 use Rattle.der_elements.specs.declared.path.Step.{Step}
 use Rattle.der_elements.specs.declared.walk.Walk.{Walk}
-use Rattle.der_elements.specs.declared.refusal.Refusal.{Refusal}
+use Rattle.der_elements.specs.declared.error.ElementError.{ElementError}
 use Rattle.der_elements.specs.declared.content.End.{End}
 use Rattle.der_elements.specs.Ends.{end_from, end_in, ends_at_marker, EndsWithin, IsEndOf, IsWithin}
 pub use Rattle.der_elements.specs.Ends.{between}
@@ -170,14 +170,14 @@ pub record HasOctets (i : List ℕ) (e : Element) : Type 0 where
 
 -- After visiting vs, the walk stops with f, the first fault of the input. So nothing is visited to the end of the
 -- input.
-pub record IsRefused (x : Extras) (r : Rules) (i : List ℕ) (vs : List Visited) (w : Walk) (f : Refusal) : Type 0 where
+pub record IsRefused (x : Extras) (r : Rules) (i : List ℕ) (vs : List Visited) (w : Walk) (f : ElementError) : Type 0 where
   pub visited : HasVisited x r i w vs
   pub never : (us : List Visited) → ¬ Visits x r 101 0 0 i us
   pub first : IsFirstFault x r i vs (steps_of w.opened.items ++ option_to_list f.step) f
 
 -- After visiting vs, the walk visits one more element, or there is none, or it stops with an error. If there is none,
 -- the input is valid, and vs are all elements that are visited.
-abbrev pub VisitsNext : Extras → Rules → List ℕ → List Visited → Walk → Result (Option Element) Refusal → Type 0
+abbrev pub VisitsNext : Extras → Rules → List ℕ → List Visited → Walk → Result (Option Element) ElementError → Type 0
 VisitsNext x r i vs w (Ok (Some e)) = HasVisited x r i w (vs ++ visited_of e ∷ []) × HasOctets i e
     × (e.index ≡ index_in e.depth vs) × (e.depth ≤ 100)
 VisitsNext x r i vs w (Ok None) = Visits x r 101 0 0 i vs

@@ -4,7 +4,7 @@ ghost use Rattle.der_elements.specs.Check.Readers.{BeginsWithElement};
 ghost use Rattle.der_elements.specs.FirstFault.{IsFirstFaultOf};
 
 use crate::cause::Cause;
-use crate::refusal::Refusal;
+use crate::error::ElementError;
 use crate::walk::Walk;
 use der_base::rules::Rules;
 
@@ -16,7 +16,7 @@ const SHORTEST: usize = 2;
 ///
 /// Elements inside may have fewer than `max_depth` elements around them. One that is deeper has the cause `TooDeep`,
 /// unless its header or its length is at fault. A truncated input has the cause `Cut`. An empty one lacks two octets.
-pub fn first_fault(octets: &[u8], rules: Rules, max_depth: usize) -> Refusal
+pub fn first_fault(octets: &[u8], rules: Rules, max_depth: usize) -> ElementError
     requires none { (rest : List ℕ) → ¬ BeginsWithElement rules max_depth octets.now rest }
     requires depth { max_depth ≤ 101 }
     ensures { IsFirstFaultOf rules max_depth octets.now result }
@@ -25,7 +25,7 @@ pub fn first_fault(octets: &[u8], rules: Rules, max_depth: usize) -> Refusal
     'elements: loop {
         match walk.next_within(max_depth) {
             Ok(Some(_)) => {}
-            Ok(None) => return Refusal::at(0, Cause::Cut(SHORTEST)),
+            Ok(None) => return ElementError::at(0, Cause::Cut(SHORTEST)),
             Err(refusal) => return refusal,
         }
     }

@@ -8,9 +8,9 @@ use crate::cause::Cause;
 use crate::check::may_be_constructed;
 use crate::content::{Content, End, Open};
 use crate::element::Element;
+use crate::error::ElementError;
 use crate::path::Path;
 use crate::reason::Reason;
-use crate::refusal::Refusal;
 use arrayvec::ArrayVec;
 use der_base::content::after_end_marker;
 use der_base::error::{BerError, Err as Refused, Needed};
@@ -85,7 +85,7 @@ impl<'a> Walk<'a> {
 
     /// The next element. None at the end of the input, which is then known to be valid. The walk has then visited every
     /// element.
-    pub fn next_element(&mut self) -> Result<Option<Element<'a>>, Refusal>
+    pub fn next_element(&mut self) -> Result<Option<Element<'a>>, ElementError>
         ensures visits { (x : Extras) (r : Rules) (i : List ℕ) (vs : List Visited) → HasVisited x r i self.old vs
             → VisitsNext x r i vs self.new result }
         ensures shorter { IfOk result (λ e. IsSome e → octets_ahead self.new < octets_ahead self.old) }
@@ -94,7 +94,10 @@ impl<'a> Walk<'a> {
     }
 
     /// The next element, which may have fewer than `max_depth` elements around it.
-    pub(crate) fn next_within(&mut self, max_depth: usize) -> Result<Option<Element<'a>>, Refusal>
+    pub(crate) fn next_within(
+        &mut self,
+        max_depth: usize,
+    ) -> Result<Option<Element<'a>>, ElementError>
         requires { max_depth ≤ 101 }
         ensures visits { (x : Extras) (r : Rules) (i : List ℕ) (vs : List Visited) → HasVisited x r i self.old vs
             → VisitsTo max_depth x r i vs self.new result }
@@ -118,7 +121,7 @@ impl<'a> Walk<'a> {
     }
 
     /// Walks on to the first fault. None if the rest of the input is valid.
-    pub fn find_fault(&mut self) -> Option<Refusal>
+    pub fn find_fault(&mut self) -> Option<ElementError>
         ensures { (x : Extras) (r : Rules) (i : List ℕ) (vs : List Visited) → HasVisited x r i self.old vs
             → (us : List Visited) × MatchOption result (Visits x r 101 0 0 i us) (IsRefused x r i us self.new) }
     {
@@ -132,7 +135,7 @@ impl<'a> Walk<'a> {
     }
 
     /// The path to a rejected element: the elements around it, and itself if its header was read.
-    pub fn path(&self, refusal: &Refusal) -> Path
+    pub fn path(&self, refusal: &ElementError) -> Path
         ensures { result.steps.items ≡ steps_of self.now.opened.items ++ option_to_list refusal.now.step }
     {
         let mut path = Path::new();
@@ -146,7 +149,7 @@ impl<'a> Walk<'a> {
     }
 
     /// Why a rejected element stops the walk, with what else is known there.
-    pub fn reason(&self, refusal: &Refusal) -> Reason<'a>
+    pub fn reason(&self, refusal: &ElementError) -> Reason<'a>
         ensures cause { result.cause ≡ refusal.now.cause }
         ensures octets { result.octets.now ≡ drop refusal.now.offset self.now.input.now }
         ensures after_end { result.after_end ≡ octets_after_end (position_of self.now) refusal.now.cause }
@@ -257,7 +260,7 @@ impl<'a> Walk<'a> {
     }
 
     /// Reads the element at the start of the octets here, which may have fewer than `max_depth` elements around it.
-    fn read_element(&self, here: &'a [u8], max_depth: usize) -> Result<Element<'a>, Refusal>
+    fn read_element(&self, here: &'a [u8], max_depth: usize) -> Result<Element<'a>, ElementError>
         requires fits { self.now.at + length here.now ≤ limit_of (length self.now.input.now) (end_of self.now) }
         requires some { here.now ≢ [] }
         requires depth { max_depth ≤ 101 }
@@ -276,7 +279,7 @@ impl<'a> Walk<'a> {
         };
         let element = Element { content, ..element };
         if element.depth >= max_depth {
-            return Err(Refusal::of(&element, Cause::TooDeep));
+            return Err(ElementError::of(&element, Cause::TooDeep));
         }
         let breaks_its_type = match self.check(&element) {
             Ok(breaks) => breaks,
@@ -323,7 +326,11 @@ impl<'a> Walk<'a> {
 
     /// The content octets of an element that begins here. None if the length is indefinite, and for a constructed
     /// element that is truncated.
-    fn content_of(&self, element: &Element<'a>, here: &'a [u8]) -> Result<Option<&'a [u8]>, Refusal>
+    fn content_of(
+        &self,
+        element: &Element<'a>,
+        here: &'a [u8],
+    ) -> Result<Option<&'a [u8]>, ElementError>
         requires fits { element.now.offset + element.now.header + length here.now
             ≤ limit_of (length self.now.input.now) (end_of self.now) }
         ensures content { IfOk result (FindsContent element.now here.now) }
@@ -340,17 +347,17 @@ impl<'a> Walk<'a> {
         let begin = element.offset + element.header;
         let past = self.content.end.overrun(begin, length, self.input.len());
         if past > 0 {
-            return Err(Refusal::of(element, Cause::PastEnd(past)));
+            return Err(ElementError::of(element, Cause::PastEnd(past)));
         }
         if element.constructed {
             return Ok(None);
         }
-        Err(Refusal::of(element, self.cut(length - here.len())))
+        Err(ElementError::of(element, self.cut(length - here.len())))
     }
 
     /// Checks whether an element may be constructed, or the content of a primitive one. Returns whether the content
     /// breaks a rule of its type.
-    fn check(&self, element: &Element<'a>) -> Result<bool, Refusal>
+    fn check(&self, element: &Element<'a>) -> Result<bool, ElementError>
         ensures checked { IfOk result (IsChecked self.now.keeps_values self.now.content.rules element.now) }
         ensures refused { IfErr result (FailsCheck self.now element.now) }
     {
@@ -361,15 +368,15 @@ impl<'a> Walk<'a> {
         if may_be_constructed(self.content.rules, element.class, tag) {
             Ok(false)
         } else if may_be_constructed(Rules::Ber, element.class, tag) {
-            Err(Refusal::of(element, Cause::ConstructedString))
+            Err(ElementError::of(element, Cause::ConstructedString))
         } else {
-            Err(Refusal::of(element, Cause::Constructed))
+            Err(ElementError::of(element, Cause::Constructed))
         }
     }
 
     /// Checks the content of a primitive element. End-of-contents octets aren't an element. Returns whether the content
     /// breaks a rule of its type.
-    fn check_primitive(&self, element: &Element<'a>) -> Result<bool, Refusal>
+    fn check_primitive(&self, element: &Element<'a>) -> Result<bool, ElementError>
         requires { element.now.constructed ≡ false }
         ensures checked { IfOk result (IsChecked self.now.keeps_values self.now.content.rules element.now) }
         ensures refused { IfErr result (FailsCheck self.now element.now) }
@@ -378,7 +385,7 @@ impl<'a> Walk<'a> {
             return Ok(false);
         }
         if element.number == 0 {
-            return Err(Refusal::of(element, Cause::EndMarker));
+            return Err(ElementError::of(element, Cause::EndMarker));
         }
         let content = element.content.unwrap_or(&[]);
         let Err(e) = check_content(self.content.rules, element.number, content) else {
@@ -387,7 +394,7 @@ impl<'a> Walk<'a> {
         if self.keeps() {
             return Ok(true);
         }
-        Err(Refusal::of(element, Cause::Value(e)))
+        Err(ElementError::of(element, Cause::Value(e)))
     }
 
     /// Whether a walk visits an element here whose content breaks a rule of its type.
@@ -470,16 +477,16 @@ impl<'a> Walk<'a> {
 
     /// The error at the end of the octets here: the input is truncated, or the innermost element lacks end-of-contents
     /// octets.
-    fn refuse_end(&self) -> Refusal
+    fn refuse_end(&self) -> ElementError
         ensures cause { result.cause ≡ cause_of_end (position_of self.now) }
         ensures place { result.offset ≡ place_of (position_of self.now) result.cause }
         ensures step { result.step ≡ None }
     {
         match self.content.end {
             End::At(_) if self.content.has_marker => {
-                Refusal::at(self.innermost(), Cause::NoEndMarker)
+                ElementError::at(self.innermost(), Cause::NoEndMarker)
             }
-            _ => Refusal::at(self.at, self.cut(END_MARKER)),
+            _ => ElementError::at(self.at, self.cut(END_MARKER)),
         }
     }
 
@@ -494,7 +501,7 @@ impl<'a> Walk<'a> {
     }
 
     /// The error at an element whose header can't be read.
-    fn refuse_header(&self, e: Refused<BerError>) -> Refusal
+    fn refuse_header(&self, e: Refused<BerError>) -> ElementError
         ensures cause { result.cause ≡ cause_of_header (position_of self.now) e }
         ensures place { result.offset ≡ self.now.at }
         ensures step { result.step ≡ None }
@@ -504,7 +511,7 @@ impl<'a> Walk<'a> {
             Refused::Error(e) | Refused::Failure(e) => Cause::Header(e),
             Refused::Incomplete(Needed::Unknown) | Refused::OutOfMemory => self.lacks(1),
         };
-        Refusal::at(self.at, cause)
+        ElementError::at(self.at, cause)
     }
 }
 

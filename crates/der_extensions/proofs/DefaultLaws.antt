@@ -7,7 +7,7 @@ use Rattle.der_base.specs.declared.rules.Rules.{Rules}
 use Rattle.der_base.specs.Numbers.{unsigned}
 use Rattle.der_values.specs.Kinds.{Kind, booleans, numbers}
 use Rattle.der_cursor.specs.declared.cursor.Cursor.{Cursor}
-use Rattle.der_cursor.specs.declared.refusal.Refusal.{Refusal}
+use Rattle.der_cursor.specs.declared.error.ReadError.{ReadError}
 use Rattle.der_cursor.specs.Cursors.{octets_left, rules_of, advanced, IsTagged, IsNextType, ReadsOr, ReadsValue}
 use Rattle.der_cursor.specs.Elements.{IsNext}
 use Rattle.der_cursor.specs.Formats.{Boolean, Default, Format, Implicit, Never, Number, Primitive, ReadsField, ReadsNext, Required, Value}
@@ -38,10 +38,10 @@ module _ {X V : Type 0} (value : X → V) (one : (a b : X) → value a ≡ value
   next : (v : V) (rest : List ℕ) → Required T (rules_of old) (octets_left old) v rest → IsNextType t tagged
   next v rest z = unwanted t n old tagged q (next_of T (rules_of old) (octets_left old) v rest z)
 
-  read : {after : Cursor} (result : Result X (Refusal BerError)) → ReadsValue value (k (rules_of tagged)) t tagged result after → ReadsField (Required T) value Never old result after
+  read : {after : Cursor} (result : Result X (ReadError BerError)) → ReadsValue value (k (rules_of tagged)) t tagged result after → ReadsField (Required T) value Never old result after
   read result h = implicit_read k q h
 
-  value_next : (result : Result X (Refusal BerError)) → old.implicit ≡ None → ReadsOr value (k (rules_of tagged)) t d tagged result new → ReadsNext (Default T (value d)) value Never old result new
+  value_next : (result : Result X (ReadError BerError)) → old.implicit ≡ None → ReadsOr value (k (rules_of tagged)) t d tagged result new → ReadsNext (Default T (value d)) value Never old result new
   unfolding Default
   value_next (Ok x) fresh (inl (absent, same, moved)) = let s = stays n old tagged new q moved in record {
     found = (inl ((λ z. absent (unwanted t n old tagged q z)), ap value same, s.0), s.1);
@@ -63,11 +63,11 @@ module _ {X V : Type 0} (value : X → V) (one : (a b : X) → value a ≡ value
 one_number : (a b : ℕ) → pos a ≡ pos b → a ≡ b
 one_number a b e = cc
 
-pub implicit_number_or_read : (d : ℕ) {n : ℕ} {old tagged new : Cursor} {result : Result ℕ (Refusal BerError)} → IsTagged ContextSpecific n old tagged
+pub implicit_number_or_read : (d : ℕ) {n : ℕ} {old tagged new : Cursor} {result : Result ℕ (ReadError BerError)} → IsTagged ContextSpecific n old tagged
     → ReadsOr pos (numbers (rules_of tagged) (unsigned 32)) 2 d tagged result new → ReadsField (Default (Implicit n (Number (unsigned 32))) (pos d)) pos Never old result new
 implicit_number_or_read d {n = n} {old = old} {tagged = tagged} {new = new} {result = result} q h fresh =
     value_next pos one_number (λ r. numbers r (unsigned 32)) 2 d n old tagged new q result fresh h
 
-pub implicit_boolean_or_read : (d : Bool) {n : ℕ} {old tagged new : Cursor} {result : Result Bool (Refusal BerError)} → IsTagged ContextSpecific n old tagged
+pub implicit_boolean_or_read : (d : Bool) {n : ℕ} {old tagged new : Cursor} {result : Result Bool (ReadError BerError)} → IsTagged ContextSpecific n old tagged
     → ReadsOr (λ v. v) (booleans (rules_of tagged)) 1 d tagged result new → ReadsField (Default (Implicit n Boolean) d) (λ v. v) Never old result new
 implicit_boolean_or_read d {n = n} {old = old} {tagged = tagged} {new = new} {result = result} q h fresh = value_next (λ v. v) (λ a b e. e) booleans 1 d n old tagged new q result fresh h

@@ -8,7 +8,7 @@ use Rattle.der_base.specs.declared.header.Class.TheVariants.{ContextSpecific}
 use Rattle.der_base.specs.declared.rules.Rules.{Rules}
 use Rattle.der_base.proofs.Octets.Identifiers.{identifier_same}
 use Rattle.der_cursor.specs.declared.cursor.Cursor.{Cursor}
-use Rattle.der_cursor.specs.declared.refusal.Refusal.{Refusal}
+use Rattle.der_cursor.specs.declared.error.ReadError.{ReadError}
 use Rattle.der_cursor.specs.Cursors.{OpensAt, octets_left, rules_of}
 use Rattle.der_cursor.specs.Elements.{IsNext}
 use Rattle.der_cursor.specs.Formats.{Explicit, Field, Format, Implicit, Never, ObjectIdentifier, OctetString, Octets, ReadsField, Required, Sequence, Text}
@@ -49,7 +49,7 @@ pub one_number : (n m : ℕ) (i : List ℕ) → IsNext ContextSpecific n i → I
 one_number n m i a b = (identifier_same ContextSpecific ContextSpecific a.0 b.0 n m a.1 b.1 (sym a.2 ∙ b.2)).2
 
 -- an element that is opened, whose octets are kept
-pub kept_at : {c : Class} {p : Bool} {n : ℕ} {old new : Cursor} {result : Result Cursor (Refusal BerError)} → OpensAt c p n old result new
+pub kept_at : {c : Class} {p : Bool} {n : ℕ} {old new : Cursor} {result : Result Cursor (ReadError BerError)} → OpensAt c p n old result new
     → ReadsField (Required (record { class = c; number = n; constructed = p; content = Octets })) octets_left Never old result new
 kept_at {result = Ok inner} o = inside_of Octets o (octets_kept inner)
 kept_at {result = Err e} o = unopened_of Octets o
@@ -75,7 +75,7 @@ module _ {V W T U E : Type 0} {F : Field V} {view : T → V} {whole : U → W} w
 module _ {V : Type 0} (alternative : V → NameValue) (n : ℕ) (T : Format V)
     (to : (r : Rules) (i : List ℕ) (v : V) (rest : List ℕ) → Required T r i v rest → GeneralName r i (alternative v) rest)
     (back : (r : Rules) (i : List ℕ) (u : NameValue) (rest : List ℕ) → number_of u ≡ n → GeneralName r i u rest → Chosen alternative (Required T) r i u rest) where
-  chosen : {old new : Cursor} (result : Result NameEnum (Refusal BerError)) → IsNext ContextSpecific n (octets_left old) → ReadsField (Chosen alternative (Required T)) name_of Never old result new
+  chosen : {old new : Cursor} (result : Result NameEnum (ReadError BerError)) → IsNext ContextSpecific n (octets_left old) → ReadsField (Chosen alternative (Required T)) name_of Never old result new
       → ReadsField GeneralName name_of Never old result new
   unfolding Chosen
   chosen {old = old} {new = new} (Ok x) q h fresh = let r = h fresh in let z = r.found.0 in record {
@@ -92,7 +92,7 @@ unfolding GeneralName Chosen
 back_0 r i (other_name v) rest e z = (v, refl, z)
 back_0 r i u rest e z = absurd (omega (arith, e))
 
-pub other_name_chosen : {old new : Cursor} {result : Result NameEnum (Refusal BerError)} → IsNext ContextSpecific 0 (octets_left old) → ReadsField (Chosen other_name (Required (Implicit 0 OtherName))) name_of Never old result new
+pub other_name_chosen : {old new : Cursor} {result : Result NameEnum (ReadError BerError)} → IsNext ContextSpecific 0 (octets_left old) → ReadsField (Chosen other_name (Required (Implicit 0 OtherName))) name_of Never old result new
     → ReadsField GeneralName name_of Never old result new
 unfolding GeneralName
 other_name_chosen {result = result} q h = chosen other_name 0 (Implicit 0 OtherName) (λ r i v rest z. z) back_0 result q h
@@ -102,7 +102,7 @@ unfolding GeneralName Chosen
 back_1 r i (rfc822_name v) rest e z = (v, refl, z)
 back_1 r i u rest e z = absurd (omega (arith, e))
 
-pub rfc822_name_chosen : {old new : Cursor} {result : Result NameEnum (Refusal BerError)} → IsNext ContextSpecific 1 (octets_left old) → ReadsField (Chosen rfc822_name (Required (Implicit 1 (Text 22)))) name_of Never old result new
+pub rfc822_name_chosen : {old new : Cursor} {result : Result NameEnum (ReadError BerError)} → IsNext ContextSpecific 1 (octets_left old) → ReadsField (Chosen rfc822_name (Required (Implicit 1 (Text 22)))) name_of Never old result new
     → ReadsField GeneralName name_of Never old result new
 unfolding GeneralName
 rfc822_name_chosen {result = result} q h = chosen rfc822_name 1 (Implicit 1 (Text 22)) (λ r i v rest z. z) back_1 result q h
@@ -112,7 +112,7 @@ unfolding GeneralName Chosen
 back_2 r i (dns_name v) rest e z = (v, refl, z)
 back_2 r i u rest e z = absurd (omega (arith, e))
 
-pub dns_name_chosen : {old new : Cursor} {result : Result NameEnum (Refusal BerError)} → IsNext ContextSpecific 2 (octets_left old) → ReadsField (Chosen dns_name (Required (Implicit 2 (Text 22)))) name_of Never old result new
+pub dns_name_chosen : {old new : Cursor} {result : Result NameEnum (ReadError BerError)} → IsNext ContextSpecific 2 (octets_left old) → ReadsField (Chosen dns_name (Required (Implicit 2 (Text 22)))) name_of Never old result new
     → ReadsField GeneralName name_of Never old result new
 unfolding GeneralName
 dns_name_chosen {result = result} q h = chosen dns_name 2 (Implicit 2 (Text 22)) (λ r i v rest z. z) back_2 result q h
@@ -122,7 +122,7 @@ unfolding GeneralName Chosen
 back_3 r i (x400_address v) rest e z = (v, refl, z)
 back_3 r i u rest e z = absurd (omega (arith, e))
 
-pub x400_address_chosen : {old new : Cursor} {result : Result NameEnum (Refusal BerError)} → IsNext ContextSpecific 3 (octets_left old) → ReadsField (Chosen x400_address (Required (Implicit 3 (Sequence Octets)))) name_of Never old result new
+pub x400_address_chosen : {old new : Cursor} {result : Result NameEnum (ReadError BerError)} → IsNext ContextSpecific 3 (octets_left old) → ReadsField (Chosen x400_address (Required (Implicit 3 (Sequence Octets)))) name_of Never old result new
     → ReadsField GeneralName name_of Never old result new
 unfolding GeneralName
 x400_address_chosen {result = result} q h = chosen x400_address 3 (Implicit 3 (Sequence Octets)) (λ r i v rest z. z) back_3 result q h
@@ -132,7 +132,7 @@ unfolding GeneralName Chosen
 back_4 r i (directory_name v) rest e z = (v, refl, z)
 back_4 r i u rest e z = absurd (omega (arith, e))
 
-pub directory_name_chosen : {old new : Cursor} {result : Result NameEnum (Refusal BerError)} → IsNext ContextSpecific 4 (octets_left old) → ReadsField (Chosen directory_name (Required (Explicit 4 (Required Name)))) name_of Never old result new
+pub directory_name_chosen : {old new : Cursor} {result : Result NameEnum (ReadError BerError)} → IsNext ContextSpecific 4 (octets_left old) → ReadsField (Chosen directory_name (Required (Explicit 4 (Required Name)))) name_of Never old result new
     → ReadsField GeneralName name_of Never old result new
 unfolding GeneralName
 directory_name_chosen {result = result} q h = chosen directory_name 4 (Explicit 4 (Required Name)) (λ r i v rest z. z) back_4 result q h
@@ -142,7 +142,7 @@ unfolding GeneralName Chosen
 back_5 r i (edi_party_name v) rest e z = (v, refl, z)
 back_5 r i u rest e z = absurd (omega (arith, e))
 
-pub edi_party_name_chosen : {old new : Cursor} {result : Result NameEnum (Refusal BerError)} → IsNext ContextSpecific 5 (octets_left old) → ReadsField (Chosen edi_party_name (Required (Implicit 5 (Sequence Octets)))) name_of Never old result new
+pub edi_party_name_chosen : {old new : Cursor} {result : Result NameEnum (ReadError BerError)} → IsNext ContextSpecific 5 (octets_left old) → ReadsField (Chosen edi_party_name (Required (Implicit 5 (Sequence Octets)))) name_of Never old result new
     → ReadsField GeneralName name_of Never old result new
 unfolding GeneralName
 edi_party_name_chosen {result = result} q h = chosen edi_party_name 5 (Implicit 5 (Sequence Octets)) (λ r i v rest z. z) back_5 result q h
@@ -152,7 +152,7 @@ unfolding GeneralName Chosen
 back_6 r i (uniform_resource_identifier v) rest e z = (v, refl, z)
 back_6 r i u rest e z = absurd (omega (arith, e))
 
-pub uniform_resource_identifier_chosen : {old new : Cursor} {result : Result NameEnum (Refusal BerError)} → IsNext ContextSpecific 6 (octets_left old) → ReadsField (Chosen uniform_resource_identifier (Required (Implicit 6 (Text 22)))) name_of Never old result new
+pub uniform_resource_identifier_chosen : {old new : Cursor} {result : Result NameEnum (ReadError BerError)} → IsNext ContextSpecific 6 (octets_left old) → ReadsField (Chosen uniform_resource_identifier (Required (Implicit 6 (Text 22)))) name_of Never old result new
     → ReadsField GeneralName name_of Never old result new
 unfolding GeneralName
 uniform_resource_identifier_chosen {result = result} q h = chosen uniform_resource_identifier 6 (Implicit 6 (Text 22)) (λ r i v rest z. z) back_6 result q h
@@ -162,7 +162,7 @@ unfolding GeneralName Chosen
 back_7 r i (ip_address v) rest e z = (v, refl, z)
 back_7 r i u rest e z = absurd (omega (arith, e))
 
-pub ip_address_chosen : {old new : Cursor} {result : Result NameEnum (Refusal BerError)} → IsNext ContextSpecific 7 (octets_left old) → ReadsField (Chosen ip_address (Required (Implicit 7 OctetString))) name_of Never old result new
+pub ip_address_chosen : {old new : Cursor} {result : Result NameEnum (ReadError BerError)} → IsNext ContextSpecific 7 (octets_left old) → ReadsField (Chosen ip_address (Required (Implicit 7 OctetString))) name_of Never old result new
     → ReadsField GeneralName name_of Never old result new
 unfolding GeneralName
 ip_address_chosen {result = result} q h = chosen ip_address 7 (Implicit 7 OctetString) (λ r i v rest z. z) back_7 result q h
@@ -172,7 +172,7 @@ unfolding GeneralName Chosen
 back_8 r i (registered_id v) rest e z = (v, refl, z)
 back_8 r i u rest e z = absurd (omega (arith, e))
 
-pub registered_id_chosen : {old new : Cursor} {result : Result NameEnum (Refusal BerError)} → IsNext ContextSpecific 8 (octets_left old) → ReadsField (Chosen registered_id (Required (Implicit 8 ObjectIdentifier))) name_of Never old result new
+pub registered_id_chosen : {old new : Cursor} {result : Result NameEnum (ReadError BerError)} → IsNext ContextSpecific 8 (octets_left old) → ReadsField (Chosen registered_id (Required (Implicit 8 ObjectIdentifier))) name_of Never old result new
     → ReadsField GeneralName name_of Never old result new
 unfolding GeneralName
 registered_id_chosen {result = result} q h = chosen registered_id 8 (Implicit 8 ObjectIdentifier) (λ r i v rest z. z) back_8 result q h
@@ -189,7 +189,7 @@ none i h0 h1 h2 h3 h4 h5 h6 h7 h8 (uniform_resource_identifier v) z = h6 z
 none i h0 h1 h2 h3 h4 h5 h6 h7 h8 (ip_address v) z = h7 z
 none i h0 h1 h2 h3 h4 h5 h6 h7 h8 (registered_id v) z = h8 z
 
-pub no_alternative : {old new : Cursor} {e : Refusal BerError} → ¬ IsNext ContextSpecific 0 (octets_left old) → ¬ IsNext ContextSpecific 1 (octets_left old) → ¬ IsNext ContextSpecific 2 (octets_left old) → ¬ IsNext ContextSpecific 3 (octets_left old) → ¬ IsNext ContextSpecific 4 (octets_left old) → ¬ IsNext ContextSpecific 5 (octets_left old) → ¬ IsNext ContextSpecific 6 (octets_left old) → ¬ IsNext ContextSpecific 7 (octets_left old) → ¬ IsNext ContextSpecific 8 (octets_left old) → ReadsField GeneralName name_of Never old (Err e) new
+pub no_alternative : {old new : Cursor} {e : ReadError BerError} → ¬ IsNext ContextSpecific 0 (octets_left old) → ¬ IsNext ContextSpecific 1 (octets_left old) → ¬ IsNext ContextSpecific 2 (octets_left old) → ¬ IsNext ContextSpecific 3 (octets_left old) → ¬ IsNext ContextSpecific 4 (octets_left old) → ¬ IsNext ContextSpecific 5 (octets_left old) → ¬ IsNext ContextSpecific 6 (octets_left old) → ¬ IsNext ContextSpecific 7 (octets_left old) → ¬ IsNext ContextSpecific 8 (octets_left old) → ReadsField GeneralName name_of Never old (Err e) new
 no_alternative {old = old} h0 h1 h2 h3 h4 h5 h6 h7 h8 fresh = record {
   found = tt;
   only = λ u rest z. none (octets_left old) h0 h1 h2 h3 h4 h5 h6 h7 h8 u (number_next (rules_of old) (octets_left old) u rest z);

@@ -4,7 +4,7 @@ use Rattle.std.specs.Option.{option_map}
 use Rattle.der_base.specs.declared.error.Error.{Error as BerError}
 use Rattle.der_base.specs.declared.header.Class.TheVariants.{ContextSpecific}
 use Rattle.der_cursor.specs.declared.cursor.Cursor.{Cursor}
-use Rattle.der_cursor.specs.declared.refusal.Refusal.{Refusal}
+use Rattle.der_cursor.specs.declared.error.ReadError.{ReadError}
 use Rattle.der_cursor.specs.Cursors.{octets_left, rules_of}
 use Rattle.der_cursor.specs.Elements.{IsNext}
 use Rattle.der_cursor.specs.Formats.{Format, Implicit, Limited, Never, Optional, ReadsField, Required}
@@ -14,7 +14,7 @@ use Rattle.der_extensions.specs.GeneralNames.{Chosen, GeneralNames, RelativeDist
 use Rattle.der_extensions.proofs.NameLaws.{next_of, one_number}
 
 -- the alternative whose tag is next is the name
-pub full_name_chosen : {old new : Cursor} {result : Result NameEnum (Refusal BerError)} → IsNext ContextSpecific 0 (octets_left old)
+pub full_name_chosen : {old new : Cursor} {result : Result NameEnum (ReadError BerError)} → IsNext ContextSpecific 0 (octets_left old)
     → ReadsField (Chosen full_name (Required (Implicit 0 GeneralNames))) point_name_of Never old result new → ReadsField DistributionPointName point_name_of Never old result new
 unfolding DistributionPointName Chosen
 full_name_chosen {old = old} {new = new} {result = Ok x} q h fresh = let r = h fresh in let z = r.found.0 in record {
@@ -32,7 +32,7 @@ full_name_chosen {old = old} {new = new} {result = Err e} q h fresh = let r = h 
   ];
 }
 
-pub relative_name_chosen : {old new : Cursor} {result : Result NameEnum (Refusal BerError)} → ¬ IsNext ContextSpecific 0 (octets_left old)
+pub relative_name_chosen : {old new : Cursor} {result : Result NameEnum (ReadError BerError)} → ¬ IsNext ContextSpecific 0 (octets_left old)
     → ReadsField (Chosen name_relative_to_issuer (Required (Implicit 1 RelativeDistinguishedName))) point_name_of Never old result new → ReadsField DistributionPointName point_name_of Never old result new
 unfolding DistributionPointName Chosen
 relative_name_chosen {old = old} {new = new} {result = Ok x} q h fresh = let r = h fresh in let z = r.found.0 in record {

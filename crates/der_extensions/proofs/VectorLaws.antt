@@ -6,7 +6,7 @@ use Rattle.std.proofs.lemmas.List.{drop_at, nil_from_length, take_at, take-appen
 use Rattle.der_base.specs.declared.error.Error.{Error as BerError}
 use Rattle.der_base.specs.declared.rules.Rules.TheVariants.{Der}
 use Rattle.der_cursor.specs.declared.cursor.Cursor.{Cursor}
-use Rattle.der_cursor.specs.declared.refusal.Refusal.{Refusal}
+use Rattle.der_cursor.specs.declared.error.ReadError.{ReadError}
 use Rattle.der_cursor.specs.Cursors.{octets_left}
 use Rattle.der_cursor.specs.Formats.{Each, Never, ReadsContent}
 use Rattle.der_extensions.specs.declared.timestamps.SignedCertificateTimestamps.{SignedCertificateTimestamps}
@@ -99,17 +99,17 @@ vector_split high low n w (Some p) e q some h =
 -- the content octets of a list of timestamps
 module _ (c : Cursor) {w : List ℕ} (same : w ≡ octets_left c) where
   pub content_read : {x : SignedCertificateTimestamps} → BeginsWith Vector w (timestamps_octets x) [] → IsListOf Vector Der (timestamps_octets x)
-      → ReadsContent {E = Refusal BerError} TimestampList timestamps_octets Never c (Ok x)
+      → ReadsContent {E = ReadError BerError} TimestampList timestamps_octets Never c (Ok x)
   unfolding TimestampList
   content_read {x = x} b l fresh =
       let at = subst (λ u. BeginsWith Vector u (timestamps_octets x) []) same b in
       record { found = (at.found, l); only = λ v z. (at.only v [] z.0).0 }
 
-  pub no_vector : {e : Refusal BerError} → ((v : List ℕ) → ¬ Vector Der w v []) → ReadsContent {T = SignedCertificateTimestamps} TimestampList timestamps_octets Never c (Err e)
+  pub no_vector : {e : ReadError BerError} → ((v : List ℕ) → ¬ Vector Der w v []) → ReadsContent {T = SignedCertificateTimestamps} TimestampList timestamps_octets Never c (Err e)
   unfolding TimestampList
   no_vector n fresh = record { found = tt; only = λ v z. subst (λ u. ¬ Vector Der u v []) same (n v) z.0 }
 
-  pub no_list : {e : Refusal BerError} {v : List ℕ} → BeginsWith Vector w v [] → ¬ IsListOf Vector Der v
+  pub no_list : {e : ReadError BerError} {v : List ℕ} → BeginsWith Vector w v [] → ¬ IsListOf Vector Der v
       → ReadsContent {T = SignedCertificateTimestamps} TimestampList timestamps_octets Never c (Err e)
   unfolding TimestampList
   no_list {v = v} b n fresh =

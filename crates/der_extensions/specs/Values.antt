@@ -3,7 +3,7 @@ use Rattle.std.specs.Prelude.{◌≡◌, ℕ, List, pos, Option, Some, None, Res
 use Rattle.std.specs.Result.{result_map_both}
 use Rattle.der_base.specs.declared.error.Error.{Error as BerError}
 use Rattle.der_base.specs.declared.rules.Rules.TheVariants.{Der}
-use Rattle.der_cursor.specs.declared.refusal.Refusal.{Refusal}
+use Rattle.der_cursor.specs.declared.error.ReadError.{ReadError}
 use Rattle.der_cursor.specs.Formats.{Format, GeneralizedTime, Never, Null, OctetString, ReadsInput}
 use Rattle.der_values.specs.Kinds.{borrowed_octets}
 use Rattle.x509.specs.declared.extension.Extension.{Extension}
@@ -25,9 +25,9 @@ use Rattle.der_extensions.specs.WebExtensions.{CABFOrganizationIdentifier, Featu
 use Rattle.der_extensions.specs.WebExtensions.{organization_identifier_of, timestamps_octets}
 
 -- the value of the extension is read as one of this format
-module _ (w : List ℕ) (result : Result ExtensionValue (Refusal BerError)) where
+module _ (w : List ℕ) (result : Result ExtensionValue (ReadError BerError)) where
   abbrev pub IsRead : {T V : Type 0} → (T → ExtensionValue) → Format V → (T → V) → Type 0
-  IsRead {T} made f view = (read : Result T (Refusal BerError)) × ReadsInput Der f view Never w read
+  IsRead {T} made f view = (read : Result T (ReadError BerError)) × ReadsInput Der f view Never w read
       × (result ≡ result_map_both made (λ e. e) read)
 
   abbrev pub ReadsAs : KnownExtension → Type 0
@@ -66,10 +66,10 @@ module _ (w : List ℕ) (result : Result ExtensionValue (Refusal BerError)) wher
   ReadsAs known.NoRevAvail = IsRead (λ u. value.NoRevAvail) Null (λ x. x)
 
 -- the value is read as the type that the identifier names, if it is that of a known extension
-abbrev pub ReadsValue : List ℕ → Result ExtensionValue (Refusal BerError) → Option KnownExtension → Type 0
+abbrev pub ReadsValue : List ℕ → Result ExtensionValue (ReadError BerError) → Option KnownExtension → Type 0
 ReadsValue w result (Some k) = ReadsAs w result k
 ReadsValue w result None = result ≡ Ok value.Other
 
-abbrev pub ReadsExtension : Extension → Result ExtensionValue (Refusal BerError) → Type 0
+abbrev pub ReadsExtension : Extension → Result ExtensionValue (ReadError BerError) → Type 0
 ReadsExtension e result = (k : Option KnownExtension) × IdentifiesExtension (borrowed_octets e.identifier) k
     × ReadsValue e.value.now result k

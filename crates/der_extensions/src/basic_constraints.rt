@@ -5,7 +5,7 @@ ghost use Rattle.der_extensions.specs.Extensions.{BasicConstraints as Constraint
 
 use der_base::error::BerError;
 use der_base::header::{Class, Tag};
-use der_cursor::{Cursor, Refusal};
+use der_cursor::{Cursor, ReadError};
 
 /// The value of the extension BasicConstraints.
 #[derive(Clone, Copy, PartialEq)]
@@ -17,7 +17,7 @@ pub struct BasicConstraints {
 }
 
 /// Reads the value of a BasicConstraints by DER. Trailing data is an error, and so is a path length above 2^32-1.
-pub fn read_basic_constraints(octets: &[u8]) -> Result<BasicConstraints, Refusal<BerError>>
+pub fn read_basic_constraints(octets: &[u8]) -> Result<BasicConstraints, ReadError<BerError>>
     ensures { ReadsInput Rules.Der ConstraintsFormat constraints_of Never octets.now result }
 {
     match read_whole_constraints(octets) {
@@ -26,7 +26,7 @@ pub fn read_basic_constraints(octets: &[u8]) -> Result<BasicConstraints, Refusal
     }
 }
 
-fn read_whole_constraints(octets: &[u8]) -> Result<BasicConstraints, Refusal<BerError>>
+fn read_whole_constraints(octets: &[u8]) -> Result<BasicConstraints, ReadError<BerError>>
     ensures { ReadsWhole (Only (Required ConstraintsFormat) Rules.Der octets.now) constraints_of Never result }
 {
     let mut input = Cursor::new(octets);
@@ -35,7 +35,7 @@ fn read_whole_constraints(octets: &[u8]) -> Result<BasicConstraints, Refusal<Ber
     Ok(constraints)
 }
 
-fn read_constraints(input: &mut Cursor<'_>) -> Result<BasicConstraints, Refusal<BerError>>
+fn read_constraints(input: &mut Cursor<'_>) -> Result<BasicConstraints, ReadError<BerError>>
     ensures { ReadsField (Required ConstraintsFormat) constraints_of Never input.old result input.new }
 {
     let mut fields = input.open_sequence()?;

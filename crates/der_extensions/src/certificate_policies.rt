@@ -11,7 +11,7 @@ use crate::list::{Item, SequenceOf, read_list, read_optional};
 use der_base::any::Any;
 use der_base::error::BerError;
 use der_base::header::{Class, Tag};
-use der_cursor::{Cursor, Refusal};
+use der_cursor::{Cursor, ReadError};
 use der_values::ObjectIdentifier;
 
 /// At least one policy.
@@ -37,7 +37,7 @@ pub struct PolicyQualifierInfo<'a> {
 /// twice.
 pub fn read_certificate_policies(
     octets: &[u8],
-) -> Result<CertificatePolicies<'_>, Refusal<BerError>>
+) -> Result<CertificatePolicies<'_>, ReadError<BerError>>
     ensures { ReadsInput Rules.Der PoliciesFormat list_octets Never octets.now result }
 {
     match read_list::<PolicyInformation<'_>, BerError>(octets) {
@@ -57,14 +57,14 @@ impl<'a> Item<'a, BerError> for PolicyInformation<'a> {
 
     ghost view = { policy_of };
 
-    fn read(policies: &mut Cursor<'a>) -> Result<PolicyInformation<'a>, Refusal<BerError>> {
+    fn read(policies: &mut Cursor<'a>) -> Result<PolicyInformation<'a>, ReadError<BerError>> {
         read_policy(policies)
     }
 
     ghost takes = { required_takes PolicyFormat };
 }
 
-fn read_policy<'a>(policies: &mut Cursor<'a>) -> Result<PolicyInformation<'a>, Refusal<BerError>>
+fn read_policy<'a>(policies: &mut Cursor<'a>) -> Result<PolicyInformation<'a>, ReadError<BerError>>
     ensures { ReadsField (Required PolicyFormat) policy_of Never policies.old result policies.new }
 {
     let mut fields = policies.open_sequence()?;
@@ -79,7 +79,7 @@ fn read_policy<'a>(policies: &mut Cursor<'a>) -> Result<PolicyInformation<'a>, R
 
 fn read_qualifiers<'a>(
     fields: &mut Cursor<'a>,
-) -> Result<Option<SequenceOf<'a, PolicyQualifierInfo<'a>>>, Refusal<BerError>>
+) -> Result<Option<SequenceOf<'a, PolicyQualifierInfo<'a>>>, ReadError<BerError>>
     ensures { ReadsField (Optional PolicyQualifiers) (λ x. option_map list_octets x) Never
         fields.old result fields.new }
 {
@@ -98,14 +98,14 @@ impl<'a> Item<'a, BerError> for PolicyQualifierInfo<'a> {
 
     ghost view = { qualifier_of };
 
-    fn read(list: &mut Cursor<'a>) -> Result<PolicyQualifierInfo<'a>, Refusal<BerError>> {
+    fn read(list: &mut Cursor<'a>) -> Result<PolicyQualifierInfo<'a>, ReadError<BerError>> {
         read_qualifier(list)
     }
 
     ghost takes = { required_takes QualifierFormat };
 }
 
-fn read_qualifier<'a>(list: &mut Cursor<'a>) -> Result<PolicyQualifierInfo<'a>, Refusal<BerError>>
+fn read_qualifier<'a>(list: &mut Cursor<'a>) -> Result<PolicyQualifierInfo<'a>, ReadError<BerError>>
     ensures { ReadsField (Required QualifierFormat) qualifier_of Never list.old result list.new }
 {
     let mut fields = list.open_sequence()?;

@@ -8,12 +8,12 @@ ghost use Rattle.der_extensions.specs.Revocation.{CRLNumber};
 use der_base::error::BerError;
 use der_base::header::{Class, Tag};
 use der_base::integer::is_negative;
-use der_cursor::{Cursor, Refusal};
+use der_cursor::{Cursor, ReadError};
 
 /// Reads the value of a CRLNumber or of a deltaCRLIndicator (5.2.4) by DER. Returns the content octets of the number,
 /// the highest first. Trailing data is an error, and so is a negative number. The number may have more than the 20
 /// octets of RFC 5280.
-pub fn read_crl_number(octets: &[u8]) -> Result<&[u8], Refusal<BerError>>
+pub fn read_crl_number(octets: &[u8]) -> Result<&[u8], ReadError<BerError>>
     ensures { ReadsInput Rules.Der CRLNumber (λ x. x.now) Never octets.now result }
 {
     match read_whole_number(octets) {
@@ -22,7 +22,7 @@ pub fn read_crl_number(octets: &[u8]) -> Result<&[u8], Refusal<BerError>>
     }
 }
 
-fn read_whole_number(octets: &[u8]) -> Result<&[u8], Refusal<BerError>>
+fn read_whole_number(octets: &[u8]) -> Result<&[u8], ReadError<BerError>>
     ensures { ReadsWhole (Only (Required CRLNumber) Rules.Der octets.now) (λ x. x.now) Never result }
 {
     let mut input = Cursor::new(octets);
@@ -32,7 +32,7 @@ fn read_whole_number(octets: &[u8]) -> Result<&[u8], Refusal<BerError>>
 }
 
 /// Reads an INTEGER that isn't negative.
-fn read_natural<'a>(input: &mut Cursor<'a>) -> Result<&'a [u8], Refusal<BerError>>
+fn read_natural<'a>(input: &mut Cursor<'a>) -> Result<&'a [u8], ReadError<BerError>>
     ensures { ReadsField (Required CRLNumber) (λ x. x.now) Never input.old result input.new }
 {
     let before = *input;

@@ -10,7 +10,7 @@ use crate::list::{Item, SequenceOf, read_list, read_some};
 use der_base::any::Any;
 use der_base::error::BerError;
 use der_base::header::{Class, Tag};
-use der_cursor::{Cursor, Refusal};
+use der_cursor::{Cursor, ReadError};
 use der_values::ObjectIdentifier;
 
 /// At least one attribute.
@@ -28,7 +28,7 @@ pub struct DirectoryAttribute<'a> {
 /// attribute may come twice.
 pub fn read_subject_directory_attributes(
     octets: &[u8],
-) -> Result<SubjectDirectoryAttributes<'_>, Refusal<BerError>>
+) -> Result<SubjectDirectoryAttributes<'_>, ReadError<BerError>>
     ensures { ReadsInput Rules.Der AttributesFormat list_octets Never octets.now result }
 {
     match read_list::<DirectoryAttribute<'_>, BerError>(octets) {
@@ -49,14 +49,14 @@ impl<'a> Item<'a, BerError> for DirectoryAttribute<'a> {
 
     ghost view = { directory_attribute_of };
 
-    fn read(list: &mut Cursor<'a>) -> Result<DirectoryAttribute<'a>, Refusal<BerError>> {
+    fn read(list: &mut Cursor<'a>) -> Result<DirectoryAttribute<'a>, ReadError<BerError>> {
         read_attribute(list)
     }
 
     ghost takes = { required_takes AttributeFormat };
 }
 
-fn read_attribute<'a>(list: &mut Cursor<'a>) -> Result<DirectoryAttribute<'a>, Refusal<BerError>>
+fn read_attribute<'a>(list: &mut Cursor<'a>) -> Result<DirectoryAttribute<'a>, ReadError<BerError>>
     ensures { ReadsField (Required AttributeFormat) directory_attribute_of Never list.old result list.new }
 {
     let mut fields = list.open_sequence()?;
@@ -67,7 +67,7 @@ fn read_attribute<'a>(list: &mut Cursor<'a>) -> Result<DirectoryAttribute<'a>, R
 }
 
 /// Reads a SET OF with at least one value.
-fn read_values<'a>(fields: &mut Cursor<'a>) -> Result<SequenceOf<'a, Any<'a>>, Refusal<BerError>>
+fn read_values<'a>(fields: &mut Cursor<'a>) -> Result<SequenceOf<'a, Any<'a>>, ReadError<BerError>>
     ensures { ReadsField (Required AttributeValues) list_octets Never fields.old result fields.new }
 {
     read_some(fields, Class::Universal, Tag::Set)
@@ -83,7 +83,7 @@ impl<'a> Item<'a, BerError> for Any<'a> {
 
     ghost view = { element_of };
 
-    fn read(values: &mut Cursor<'a>) -> Result<Any<'a>, Refusal<BerError>> {
+    fn read(values: &mut Cursor<'a>) -> Result<Any<'a>, ReadError<BerError>> {
         values.any()
     }
 

@@ -6,11 +6,11 @@ ghost use Rattle.der_extensions.specs.GeneralNames.{RelativeDistinguishedName as
 use crate::list::{Item, read_items, read_some};
 use der_base::error::BerError;
 use der_base::header::{Class, Tag};
-use der_cursor::{Cursor, Refusal};
+use der_cursor::{Cursor, ReadError};
 use x509::{AttributeTypeAndValue, Name, RelativeDistinguishedName};
 
 /// Reads a Name.
-pub(crate) fn read_name<'a>(fields: &mut Cursor<'a>) -> Result<Name<'a>, Refusal<BerError>>
+pub(crate) fn read_name<'a>(fields: &mut Cursor<'a>) -> Result<Name<'a>, ReadError<BerError>>
     ensures { ReadsField (Required NameFormat) (λ n. n.octets.now) Never fields.old result fields.new }
 {
     let octets = read_items::<RelativeDistinguishedName<'a>, BerError>(
@@ -33,7 +33,7 @@ impl<'a> Item<'a, BerError> for RelativeDistinguishedName<'a> {
 
     ghost view = { λ n. n.octets.now };
 
-    fn read(names: &mut Cursor<'a>) -> Result<RelativeDistinguishedName<'a>, Refusal<BerError>> {
+    fn read(names: &mut Cursor<'a>) -> Result<RelativeDistinguishedName<'a>, ReadError<BerError>> {
         read_relative_name(names)
     }
 
@@ -43,7 +43,7 @@ impl<'a> Item<'a, BerError> for RelativeDistinguishedName<'a> {
 /// Reads a RelativeDistinguishedName.
 pub(crate) fn read_relative_name<'a>(
     names: &mut Cursor<'a>,
-) -> Result<RelativeDistinguishedName<'a>, Refusal<BerError>>
+) -> Result<RelativeDistinguishedName<'a>, ReadError<BerError>>
     ensures { ReadsField (Required RelativeFormat) (λ n. n.octets.now) Never names.old result names.new }
 {
     let list = read_some::<AttributeTypeAndValue<'a>, BerError>(names, Class::Universal, Tag::Set)?;
@@ -64,7 +64,7 @@ impl<'a> Item<'a, BerError> for AttributeTypeAndValue<'a> {
 
     ghost view = { attribute_of };
 
-    fn read(attributes: &mut Cursor<'a>) -> Result<AttributeTypeAndValue<'a>, Refusal<BerError>> {
+    fn read(attributes: &mut Cursor<'a>) -> Result<AttributeTypeAndValue<'a>, ReadError<BerError>> {
         read_attribute(attributes)
     }
 
@@ -74,7 +74,7 @@ impl<'a> Item<'a, BerError> for AttributeTypeAndValue<'a> {
 /// Reads an AttributeTypeAndValue.
 fn read_attribute<'a>(
     attributes: &mut Cursor<'a>,
-) -> Result<AttributeTypeAndValue<'a>, Refusal<BerError>>
+) -> Result<AttributeTypeAndValue<'a>, ReadError<BerError>>
     ensures { ReadsField (Required AttributeFormat) attribute_of Never attributes.old result attributes.new }
 {
     let mut parts = attributes.open_sequence()?;

@@ -18,7 +18,7 @@ use crate::key_usage::ends_in_one;
 use crate::list::{Item, SequenceOf, read_list, read_optional, read_some};
 use der_base::error::BerError;
 use der_base::header::{Class, Tag};
-use der_cursor::{Cursor, Refusal};
+use der_cursor::{Cursor, ReadError};
 use der_values::BitString;
 use x509::{AttributeTypeAndValue, RelativeDistinguishedName};
 
@@ -48,7 +48,7 @@ pub enum DistributionPointName<'a> {
 /// Trailing data is an error. A point with neither a name nor an issuer is allowed.
 pub fn read_crl_distribution_points(
     octets: &[u8],
-) -> Result<CrlDistributionPoints<'_>, Refusal<BerError>>
+) -> Result<CrlDistributionPoints<'_>, ReadError<BerError>>
     ensures { ReadsInput Rules.Der CRLDistributionPoints list_octets Never octets.now result }
 {
     match read_list::<DistributionPoint<'_>, BerError>(octets) {
@@ -68,7 +68,7 @@ impl<'a> Item<'a, BerError> for DistributionPoint<'a> {
 
     ghost view = { point_of };
 
-    fn read(points: &mut Cursor<'a>) -> Result<DistributionPoint<'a>, Refusal<BerError>> {
+    fn read(points: &mut Cursor<'a>) -> Result<DistributionPoint<'a>, ReadError<BerError>> {
         read_distribution_point(points)
     }
 
@@ -77,7 +77,7 @@ impl<'a> Item<'a, BerError> for DistributionPoint<'a> {
 
 fn read_distribution_point<'a>(
     points: &mut Cursor<'a>,
-) -> Result<DistributionPoint<'a>, Refusal<BerError>>
+) -> Result<DistributionPoint<'a>, ReadError<BerError>>
     ensures { ReadsField (Required PointFormat) point_of Never points.old result points.new }
 {
     let mut fields = points.open_sequence()?;
@@ -95,7 +95,7 @@ fn read_distribution_point<'a>(
 /// Reads a DistributionPointName in an explicit tag [0], if that is next.
 pub(crate) fn read_tagged_point_name<'a>(
     fields: &mut Cursor<'a>,
-) -> Result<Option<DistributionPointName<'a>>, Refusal<BerError>>
+) -> Result<Option<DistributionPointName<'a>>, ReadError<BerError>>
     ensures { ReadsField (OptionalTagged 0 (Only PointNameFormat)) (λ x. option_map point_name_of x) Never
         fields.old result fields.new }
 {
@@ -109,7 +109,7 @@ pub(crate) fn read_tagged_point_name<'a>(
 
 fn read_point_name<'a>(
     inside: &mut Cursor<'a>,
-) -> Result<DistributionPointName<'a>, Refusal<BerError>>
+) -> Result<DistributionPointName<'a>, ReadError<BerError>>
     ensures { ReadsField PointNameFormat point_name_of Never inside.old result inside.new }
 {
     if inside.is_next(Class::ContextSpecific, Tag(0)) {
@@ -120,7 +120,7 @@ fn read_point_name<'a>(
 
 fn read_full_name<'a>(
     inside: &mut Cursor<'a>,
-) -> Result<DistributionPointName<'a>, Refusal<BerError>>
+) -> Result<DistributionPointName<'a>, ReadError<BerError>>
     ensures { ReadsField (Chosen full_name (Required (Implicit 0 NamesFormat))) point_name_of Never
         inside.old result inside.new }
 {
@@ -130,7 +130,7 @@ fn read_full_name<'a>(
 
 fn read_relative_name<'a>(
     inside: &mut Cursor<'a>,
-) -> Result<DistributionPointName<'a>, Refusal<BerError>>
+) -> Result<DistributionPointName<'a>, ReadError<BerError>>
     ensures { ReadsField (Chosen name_relative_to_issuer (Required (Implicit 1 RelativeFormat))) point_name_of Never
         inside.old result inside.new }
 {
@@ -149,7 +149,7 @@ fn read_relative_name<'a>(
 pub(crate) fn read_reasons<'a>(
     fields: &mut Cursor<'a>,
     number: u32,
-) -> Result<Option<BitString<'a>>, Refusal<BerError>>
+) -> Result<Option<BitString<'a>>, ReadError<BerError>>
     ensures { ReadsField (Optional (Implicit number ReasonsFormat)) (λ x. option_map bits_of x) Never
         fields.old result fields.new }
 {
@@ -166,7 +166,7 @@ pub(crate) fn read_reasons<'a>(
 fn read_bits<'a>(
     fields: &mut Cursor<'a>,
     number: u32,
-) -> Result<Option<BitString<'a>>, Refusal<BerError>>
+) -> Result<Option<BitString<'a>>, ReadError<BerError>>
     ensures { ReadsField (Optional (Implicit number BitsFormat)) (λ x. option_map bits_of x) Never
         fields.old result fields.new }
 {
@@ -182,7 +182,7 @@ fn is_shortest(bits: BitString<'_>) -> bool
 
 fn read_crl_issuer<'a>(
     fields: &mut Cursor<'a>,
-) -> Result<Option<GeneralNames<'a>>, Refusal<BerError>>
+) -> Result<Option<GeneralNames<'a>>, ReadError<BerError>>
     ensures { ReadsField (Optional (Implicit 2 NamesFormat)) (λ x. option_map list_octets x) Never
         fields.old result fields.new }
 {

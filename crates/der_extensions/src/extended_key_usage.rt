@@ -7,14 +7,14 @@ ghost use Rattle.der_extensions.specs.Lists.{list_octets};
 use crate::list::{Item, SequenceOf, read_list};
 use der_base::error::BerError;
 use der_base::header::{Class, Tag};
-use der_cursor::{Cursor, Refusal};
+use der_cursor::{Cursor, ReadError};
 use der_values::ObjectIdentifier;
 
 /// At least one purpose of a key.
 pub type ExtendedKeyUsage<'a> = SequenceOf<'a, ObjectIdentifier<'a>>;
 
 /// Reads the value of an ExtendedKeyUsage by DER: the identifiers of at least one purpose. Trailing data is an error.
-pub fn read_extended_key_usage(octets: &[u8]) -> Result<ExtendedKeyUsage<'_>, Refusal<BerError>>
+pub fn read_extended_key_usage(octets: &[u8]) -> Result<ExtendedKeyUsage<'_>, ReadError<BerError>>
     ensures { ReadsInput Rules.Der ExtKeyUsageSyntax list_octets Never octets.now result }
 {
     match read_list::<ObjectIdentifier<'_>, BerError>(octets) {
@@ -35,7 +35,7 @@ impl<'a> Item<'a, BerError> for ObjectIdentifier<'a> {
 
     ghost view = { borrowed_octets };
 
-    fn read(purposes: &mut Cursor<'a>) -> Result<ObjectIdentifier<'a>, Refusal<BerError>> {
+    fn read(purposes: &mut Cursor<'a>) -> Result<ObjectIdentifier<'a>, ReadError<BerError>> {
         purposes.oid()
     }
 

@@ -15,7 +15,7 @@ use crate::list::{Item, SequenceOf, read_list};
 use der_base::any::Any;
 use der_base::error::BerError;
 use der_base::header::{Class, Tag};
-use der_cursor::{Cursor, Refusal};
+use der_cursor::{Cursor, ReadError};
 use der_values::ObjectIdentifier;
 use x509::Name;
 
@@ -52,7 +52,7 @@ pub struct OtherName<'a> {
 
 /// Reads the value of a SubjectAltName or an IssuerAltName (4.2.1.7) by DER: at least one name. Trailing data is an
 /// error.
-pub fn read_general_names(octets: &[u8]) -> Result<GeneralNames<'_>, Refusal<BerError>>
+pub fn read_general_names(octets: &[u8]) -> Result<GeneralNames<'_>, ReadError<BerError>>
     ensures { ReadsInput Rules.Der NamesFormat list_octets Never octets.now result }
 {
     match read_list::<GeneralName<'_>, BerError>(octets) {
@@ -71,7 +71,7 @@ impl<'a> Item<'a, BerError> for GeneralName<'a> {
 
     ghost view = { name_of };
 
-    fn read(names: &mut Cursor<'a>) -> Result<GeneralName<'a>, Refusal<BerError>> {
+    fn read(names: &mut Cursor<'a>) -> Result<GeneralName<'a>, ReadError<BerError>> {
         read_general_name(names)
     }
 
@@ -81,7 +81,7 @@ impl<'a> Item<'a, BerError> for GeneralName<'a> {
 /// Reads a GeneralName: the alternative whose tag is next.
 pub(crate) fn read_general_name<'a>(
     names: &mut Cursor<'a>,
-) -> Result<GeneralName<'a>, Refusal<BerError>>
+) -> Result<GeneralName<'a>, ReadError<BerError>>
     ensures { ReadsField AnyName name_of Never names.old result names.new }
 {
     if names.is_next(Class::ContextSpecific, Tag(0)) {
@@ -115,7 +115,7 @@ pub(crate) fn read_general_name<'a>(
 }
 
 /// The error for an element with a tag of no alternative.
-pub(crate) fn refuse_other(names: &Cursor<'_>) -> Refusal<BerError> {
+pub(crate) fn refuse_other(names: &Cursor<'_>) -> ReadError<BerError> {
     let mut next = *names;
     match next.any() {
         Ok(any) if any.class() == Class::ContextSpecific => {
@@ -129,7 +129,7 @@ pub(crate) fn refuse_other(names: &Cursor<'_>) -> Refusal<BerError> {
     }
 }
 
-fn read_other_name<'a>(names: &mut Cursor<'a>) -> Result<GeneralName<'a>, Refusal<BerError>>
+fn read_other_name<'a>(names: &mut Cursor<'a>) -> Result<GeneralName<'a>, ReadError<BerError>>
     ensures { ReadsField (Chosen other_name (Required (Implicit 0 OtherNameFormat))) name_of Never
         names.old result names.new }
 {
@@ -138,7 +138,7 @@ fn read_other_name<'a>(names: &mut Cursor<'a>) -> Result<GeneralName<'a>, Refusa
 }
 
 /// Reads an OtherName under the tag [0].
-fn read_other<'a>(names: &mut Cursor<'a>) -> Result<OtherName<'a>, Refusal<BerError>>
+fn read_other<'a>(names: &mut Cursor<'a>) -> Result<OtherName<'a>, ReadError<BerError>>
     ensures { ReadsField (Required (Implicit 0 OtherNameFormat)) other_name_of Never names.old result names.new }
 {
     let mut fields = names.open(Class::ContextSpecific, true, Tag(0))?;
@@ -149,7 +149,7 @@ fn read_other<'a>(names: &mut Cursor<'a>) -> Result<OtherName<'a>, Refusal<BerEr
 }
 
 /// Reads an element of any type in an explicit tag [0].
-fn read_value<'a>(fields: &mut Cursor<'a>) -> Result<Any<'a>, Refusal<BerError>>
+fn read_value<'a>(fields: &mut Cursor<'a>) -> Result<Any<'a>, ReadError<BerError>>
     ensures { ReadsField (Required (Explicit 0 AnyElement)) element_of Never fields.old result fields.new }
 {
     let mut inside = fields.open(Class::ContextSpecific, true, Tag(0))?;
@@ -158,7 +158,7 @@ fn read_value<'a>(fields: &mut Cursor<'a>) -> Result<Any<'a>, Refusal<BerError>>
     Ok(value)
 }
 
-fn read_rfc822_name<'a>(names: &mut Cursor<'a>) -> Result<GeneralName<'a>, Refusal<BerError>>
+fn read_rfc822_name<'a>(names: &mut Cursor<'a>) -> Result<GeneralName<'a>, ReadError<BerError>>
     ensures { ReadsField (Chosen rfc822_name (Required (Implicit 1 (Text 22)))) name_of Never
         names.old result names.new }
 {
@@ -166,7 +166,7 @@ fn read_rfc822_name<'a>(names: &mut Cursor<'a>) -> Result<GeneralName<'a>, Refus
     Ok(GeneralName::Rfc822Name(text))
 }
 
-fn read_dns_name<'a>(names: &mut Cursor<'a>) -> Result<GeneralName<'a>, Refusal<BerError>>
+fn read_dns_name<'a>(names: &mut Cursor<'a>) -> Result<GeneralName<'a>, ReadError<BerError>>
     ensures { ReadsField (Chosen dns_name (Required (Implicit 2 (Text 22)))) name_of Never
         names.old result names.new }
 {
@@ -176,7 +176,7 @@ fn read_dns_name<'a>(names: &mut Cursor<'a>) -> Result<GeneralName<'a>, Refusal<
 
 fn read_uniform_resource_identifier<'a>(
     names: &mut Cursor<'a>,
-) -> Result<GeneralName<'a>, Refusal<BerError>>
+) -> Result<GeneralName<'a>, ReadError<BerError>>
     ensures { ReadsField (Chosen uniform_resource_identifier (Required (Implicit 6 (Text 22)))) name_of Never
         names.old result names.new }
 {
@@ -185,13 +185,13 @@ fn read_uniform_resource_identifier<'a>(
 }
 
 /// Reads an IA5String under an implicit tag with this number.
-fn read_ia5_string<'a>(names: &mut Cursor<'a>, number: u32) -> Result<&'a str, Refusal<BerError>>
+fn read_ia5_string<'a>(names: &mut Cursor<'a>, number: u32) -> Result<&'a str, ReadError<BerError>>
     ensures { ReadsField (Required (Implicit number (Text 22))) (λ x. x.now) Never names.old result names.new }
 {
     names.implicit(number).ia5_string()
 }
 
-fn read_x400_address<'a>(names: &mut Cursor<'a>) -> Result<GeneralName<'a>, Refusal<BerError>>
+fn read_x400_address<'a>(names: &mut Cursor<'a>) -> Result<GeneralName<'a>, ReadError<BerError>>
     ensures { ReadsField (Chosen x400_address (Required (Implicit 3 (Sequence Octets)))) name_of Never
         names.old result names.new }
 {
@@ -199,7 +199,7 @@ fn read_x400_address<'a>(names: &mut Cursor<'a>) -> Result<GeneralName<'a>, Refu
     Ok(GeneralName::X400Address(content.remaining()))
 }
 
-fn read_edi_party_name<'a>(names: &mut Cursor<'a>) -> Result<GeneralName<'a>, Refusal<BerError>>
+fn read_edi_party_name<'a>(names: &mut Cursor<'a>) -> Result<GeneralName<'a>, ReadError<BerError>>
     ensures { ReadsField (Chosen edi_party_name (Required (Implicit 5 (Sequence Octets)))) name_of Never
         names.old result names.new }
 {
@@ -207,7 +207,7 @@ fn read_edi_party_name<'a>(names: &mut Cursor<'a>) -> Result<GeneralName<'a>, Re
     Ok(GeneralName::EdiPartyName(content.remaining()))
 }
 
-fn read_directory_name<'a>(names: &mut Cursor<'a>) -> Result<GeneralName<'a>, Refusal<BerError>>
+fn read_directory_name<'a>(names: &mut Cursor<'a>) -> Result<GeneralName<'a>, ReadError<BerError>>
     ensures { ReadsField (Chosen directory_name (Required (Explicit 4 (Required NameFormat)))) name_of Never
         names.old result names.new }
 {
@@ -216,7 +216,7 @@ fn read_directory_name<'a>(names: &mut Cursor<'a>) -> Result<GeneralName<'a>, Re
 }
 
 /// Reads a Name in an explicit tag [4].
-fn read_tagged_name<'a>(names: &mut Cursor<'a>) -> Result<Name<'a>, Refusal<BerError>>
+fn read_tagged_name<'a>(names: &mut Cursor<'a>) -> Result<Name<'a>, ReadError<BerError>>
     ensures { ReadsField (Required (Explicit 4 (Required NameFormat))) (λ n. n.octets.now) Never
         names.old result names.new }
 {
@@ -226,7 +226,7 @@ fn read_tagged_name<'a>(names: &mut Cursor<'a>) -> Result<Name<'a>, Refusal<BerE
     Ok(name)
 }
 
-fn read_ip_address<'a>(names: &mut Cursor<'a>) -> Result<GeneralName<'a>, Refusal<BerError>>
+fn read_ip_address<'a>(names: &mut Cursor<'a>) -> Result<GeneralName<'a>, ReadError<BerError>>
     ensures { ReadsField (Chosen ip_address (Required (Implicit 7 OctetString))) name_of Never
         names.old result names.new }
 {
@@ -234,7 +234,7 @@ fn read_ip_address<'a>(names: &mut Cursor<'a>) -> Result<GeneralName<'a>, Refusa
     Ok(GeneralName::IpAddress(address))
 }
 
-fn read_registered_id<'a>(names: &mut Cursor<'a>) -> Result<GeneralName<'a>, Refusal<BerError>>
+fn read_registered_id<'a>(names: &mut Cursor<'a>) -> Result<GeneralName<'a>, ReadError<BerError>>
     ensures { ReadsField (Chosen registered_id (Required (Implicit 8 IdentifierFormat))) name_of Never
         names.old result names.new }
 {

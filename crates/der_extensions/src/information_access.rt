@@ -10,7 +10,7 @@ use crate::general_name::{GeneralName, read_general_name};
 use crate::list::{Item, SequenceOf, read_list};
 use der_base::error::BerError;
 use der_base::header::{Class, Tag};
-use der_cursor::{Cursor, Refusal};
+use der_cursor::{Cursor, ReadError};
 use der_values::ObjectIdentifier;
 
 /// At least one description.
@@ -25,7 +25,7 @@ pub struct AccessDescription<'a> {
 
 /// Reads the value of an AuthorityInfoAccess or a SubjectInfoAccess by DER: at least one description. Trailing data is
 /// an error.
-pub fn read_information_access(octets: &[u8]) -> Result<InformationAccess<'_>, Refusal<BerError>>
+pub fn read_information_access(octets: &[u8]) -> Result<InformationAccess<'_>, ReadError<BerError>>
     ensures { ReadsInput Rules.Der AuthorityInfoAccessSyntax list_octets Never octets.now result }
 {
     match read_list::<AccessDescription<'_>, BerError>(octets) {
@@ -45,7 +45,7 @@ impl<'a> Item<'a, BerError> for AccessDescription<'a> {
 
     ghost view = { access_of };
 
-    fn read(list: &mut Cursor<'a>) -> Result<AccessDescription<'a>, Refusal<BerError>> {
+    fn read(list: &mut Cursor<'a>) -> Result<AccessDescription<'a>, ReadError<BerError>> {
         read_access_description(list)
     }
 
@@ -54,7 +54,7 @@ impl<'a> Item<'a, BerError> for AccessDescription<'a> {
 
 fn read_access_description<'a>(
     list: &mut Cursor<'a>,
-) -> Result<AccessDescription<'a>, Refusal<BerError>>
+) -> Result<AccessDescription<'a>, ReadError<BerError>>
     ensures { ReadsField (Required AccessFormat) access_of Never list.old result list.new }
 {
     let mut fields = list.open_sequence()?;

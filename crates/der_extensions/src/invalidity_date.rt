@@ -5,11 +5,11 @@ ghost use Rattle.der_cursor.specs.Formats.{GeneralizedTime, Never, Only, ReadsIn
 use der_base::error::BerError;
 use der_base::header::{Class, Tag};
 use der_base::time::ASN1DateTime;
-use der_cursor::{Cursor, Refusal};
+use der_cursor::{Cursor, ReadError};
 
 /// Reads the value of an InvalidityDate by DER: a GeneralizedTime. Trailing data is an error. The seconds may have a
 /// fraction.
-pub fn read_invalidity_date(octets: &[u8]) -> Result<ASN1DateTime, Refusal<BerError>>
+pub fn read_invalidity_date(octets: &[u8]) -> Result<ASN1DateTime, ReadError<BerError>>
     ensures { ReadsInput Rules.Der GeneralizedTime (λ x. x) Never octets.now result }
 {
     match read_whole_date(octets) {
@@ -23,7 +23,7 @@ pub fn read_invalidity_date(octets: &[u8]) -> Result<ASN1DateTime, Refusal<BerEr
     }
 }
 
-fn read_whole_date(octets: &[u8]) -> Result<ASN1DateTime, Refusal<BerError>>
+fn read_whole_date(octets: &[u8]) -> Result<ASN1DateTime, ReadError<BerError>>
     ensures { ReadsWhole (Only (Required GeneralizedTime) Rules.Der octets.now) (λ x. x) Never result }
 {
     let mut input = Cursor::new(octets);

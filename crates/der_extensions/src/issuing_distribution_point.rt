@@ -8,7 +8,7 @@ ghost use Rattle.der_extensions.specs.Revocation.{IssuingDistributionPoint as Po
 use crate::distribution_points::{DistributionPointName, read_reasons, read_tagged_point_name};
 use der_base::error::BerError;
 use der_base::header::{Class, Tag};
-use der_cursor::{Cursor, Refusal};
+use der_cursor::{Cursor, ReadError};
 use der_values::BitString;
 
 /// The value of the extension IssuingDistributionPoint.
@@ -32,7 +32,7 @@ pub struct IssuingDistributionPoint<'a> {
 /// allowed, and so is one with fields that exclude each other.
 pub fn read_issuing_distribution_point(
     octets: &[u8],
-) -> Result<IssuingDistributionPoint<'_>, Refusal<BerError>>
+) -> Result<IssuingDistributionPoint<'_>, ReadError<BerError>>
     ensures { ReadsInput Rules.Der PointFormat issuing_point_of Never octets.now result }
 {
     match read_whole_point(octets) {
@@ -41,7 +41,7 @@ pub fn read_issuing_distribution_point(
     }
 }
 
-fn read_whole_point(octets: &[u8]) -> Result<IssuingDistributionPoint<'_>, Refusal<BerError>>
+fn read_whole_point(octets: &[u8]) -> Result<IssuingDistributionPoint<'_>, ReadError<BerError>>
     ensures { ReadsWhole (Only (Required PointFormat) Rules.Der octets.now) issuing_point_of Never result }
 {
     let mut input = Cursor::new(octets);
@@ -50,7 +50,9 @@ fn read_whole_point(octets: &[u8]) -> Result<IssuingDistributionPoint<'_>, Refus
     Ok(point)
 }
 
-fn read_point<'a>(input: &mut Cursor<'a>) -> Result<IssuingDistributionPoint<'a>, Refusal<BerError>>
+fn read_point<'a>(
+    input: &mut Cursor<'a>,
+) -> Result<IssuingDistributionPoint<'a>, ReadError<BerError>>
     ensures { ReadsField (Required PointFormat) issuing_point_of Never input.old result input.new }
 {
     let mut fields = input.open_sequence()?;
@@ -72,7 +74,7 @@ fn read_point<'a>(input: &mut Cursor<'a>) -> Result<IssuingDistributionPoint<'a>
 }
 
 /// Reads a BOOLEAN under an implicit tag with this number. It is false if that isn't next.
-fn read_flag(fields: &mut Cursor<'_>, number: u32) -> Result<bool, Refusal<BerError>>
+fn read_flag(fields: &mut Cursor<'_>, number: u32) -> Result<bool, ReadError<BerError>>
     ensures { ReadsField (Default (Implicit number Boolean) false) (λ x. x) Never fields.old result fields.new }
 {
     fields.implicit(number).boolean_or(false)

@@ -12,7 +12,7 @@ use crate::general_name::GeneralNames;
 use crate::list::read_optional;
 use der_base::error::BerError;
 use der_base::header::{Class, Tag};
-use der_cursor::{Cursor, Refusal};
+use der_cursor::{Cursor, ReadError};
 
 /// The value of the extension AuthorityKeyIdentifier.
 #[derive(Drop)]
@@ -25,7 +25,7 @@ pub struct AuthorityKeyIdentifier<'a> {
 }
 
 /// Reads the value of a SubjectKeyIdentifier by DER: its octets. Trailing data is an error.
-pub fn read_subject_key_identifier(octets: &[u8]) -> Result<&[u8], Refusal<BerError>>
+pub fn read_subject_key_identifier(octets: &[u8]) -> Result<&[u8], ReadError<BerError>>
     ensures { ReadsInput Rules.Der OctetString (λ x. x.now) Never octets.now result }
 {
     match read_whole_identifier(octets) {
@@ -39,7 +39,7 @@ pub fn read_subject_key_identifier(octets: &[u8]) -> Result<&[u8], Refusal<BerEr
     }
 }
 
-fn read_whole_identifier(octets: &[u8]) -> Result<&[u8], Refusal<BerError>>
+fn read_whole_identifier(octets: &[u8]) -> Result<&[u8], ReadError<BerError>>
     ensures { ReadsWhole (Only (Required OctetString) Rules.Der octets.now) (λ x. x.now) Never result }
 {
     let mut input = Cursor::new(octets);
@@ -51,7 +51,7 @@ fn read_whole_identifier(octets: &[u8]) -> Result<&[u8], Refusal<BerError>>
 /// Reads the value of an AuthorityKeyIdentifier by DER. Trailing data is an error.
 pub fn read_authority_key_identifier(
     octets: &[u8],
-) -> Result<AuthorityKeyIdentifier<'_>, Refusal<BerError>>
+) -> Result<AuthorityKeyIdentifier<'_>, ReadError<BerError>>
     ensures { ReadsInput Rules.Der AuthorityFormat authority_of Never octets.now result }
 {
     match read_whole_authority(octets) {
@@ -60,7 +60,7 @@ pub fn read_authority_key_identifier(
     }
 }
 
-fn read_whole_authority(octets: &[u8]) -> Result<AuthorityKeyIdentifier<'_>, Refusal<BerError>>
+fn read_whole_authority(octets: &[u8]) -> Result<AuthorityKeyIdentifier<'_>, ReadError<BerError>>
     ensures { ReadsWhole (Only (Required AuthorityFormat) Rules.Der octets.now) authority_of Never result }
 {
     let mut input = Cursor::new(octets);
@@ -71,7 +71,7 @@ fn read_whole_authority(octets: &[u8]) -> Result<AuthorityKeyIdentifier<'_>, Ref
 
 fn read_authority<'a>(
     input: &mut Cursor<'a>,
-) -> Result<AuthorityKeyIdentifier<'a>, Refusal<BerError>>
+) -> Result<AuthorityKeyIdentifier<'a>, ReadError<BerError>>
     ensures { ReadsField (Required AuthorityFormat) authority_of Never input.old result input.new }
 {
     let mut fields = input.open_sequence()?;
@@ -86,7 +86,7 @@ fn read_authority<'a>(
     })
 }
 
-fn read_key_identifier<'a>(fields: &mut Cursor<'a>) -> Result<Option<&'a [u8]>, Refusal<BerError>>
+fn read_key_identifier<'a>(fields: &mut Cursor<'a>) -> Result<Option<&'a [u8]>, ReadError<BerError>>
     ensures { ReadsField (Optional (Implicit 0 OctetString)) (λ x. option_map (λ v. v.now) x) Never
         fields.old result fields.new }
 {
@@ -95,14 +95,14 @@ fn read_key_identifier<'a>(fields: &mut Cursor<'a>) -> Result<Option<&'a [u8]>, 
 
 fn read_issuer_names<'a>(
     fields: &mut Cursor<'a>,
-) -> Result<Option<GeneralNames<'a>>, Refusal<BerError>>
+) -> Result<Option<GeneralNames<'a>>, ReadError<BerError>>
     ensures { ReadsField (Optional (Implicit 1 NamesFormat)) (λ x. option_map list_octets x) Never
         fields.old result fields.new }
 {
     read_optional(fields, Class::ContextSpecific, Tag(1))
 }
 
-fn read_issuer_serial<'a>(fields: &mut Cursor<'a>) -> Result<Option<&'a [u8]>, Refusal<BerError>>
+fn read_issuer_serial<'a>(fields: &mut Cursor<'a>) -> Result<Option<&'a [u8]>, ReadError<BerError>>
     ensures { ReadsField (Optional (Implicit 2 Integer)) (λ x. option_map (λ v. v.now) x) Never
         fields.old result fields.new }
 {

@@ -8,7 +8,7 @@ ghost use Rattle.der_extensions.specs.Extensions.{KeyUsage as UsageFormat, EndsI
 
 use der_base::error::BerError;
 use der_base::header::{Class, Tag};
-use der_cursor::{Cursor, Refusal};
+use der_cursor::{Cursor, ReadError};
 use der_values::BitString;
 
 /// The value of the extension KeyUsage.
@@ -86,7 +86,7 @@ impl KeyUsage<'_> {
 
 /// Reads the value of a KeyUsage by DER. Trailing data is an error. So is a value without bits, or with a last bit of 0
 /// (X.690 11.2.2).
-pub fn read_key_usage(octets: &[u8]) -> Result<KeyUsage<'_>, Refusal<BerError>>
+pub fn read_key_usage(octets: &[u8]) -> Result<KeyUsage<'_>, ReadError<BerError>>
     ensures { ReadsInput Rules.Der UsageFormat usage_of Never octets.now result }
 {
     match read_whole_usage(octets) {
@@ -95,7 +95,7 @@ pub fn read_key_usage(octets: &[u8]) -> Result<KeyUsage<'_>, Refusal<BerError>>
     }
 }
 
-fn read_whole_usage(octets: &[u8]) -> Result<KeyUsage<'_>, Refusal<BerError>>
+fn read_whole_usage(octets: &[u8]) -> Result<KeyUsage<'_>, ReadError<BerError>>
     ensures { ReadsWhole (Only (Required UsageFormat) Rules.Der octets.now) usage_of Never result }
 {
     let mut input = Cursor::new(octets);
@@ -105,7 +105,7 @@ fn read_whole_usage(octets: &[u8]) -> Result<KeyUsage<'_>, Refusal<BerError>>
 }
 
 /// Reads a BIT STRING whose last bit is 1.
-fn read_named_bits<'a>(input: &mut Cursor<'a>) -> Result<BitString<'a>, Refusal<BerError>>
+fn read_named_bits<'a>(input: &mut Cursor<'a>) -> Result<BitString<'a>, ReadError<BerError>>
     ensures { ReadsField (Required UsageFormat) bits_of Never input.old result input.new }
 {
     let before = *input;

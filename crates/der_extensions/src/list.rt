@@ -12,7 +12,7 @@ ghost use Rattle.der_extensions.specs.Lists.{ListOf, SomeOf, YieldsNext, items_l
 
 use der_base::error::BerError;
 use der_base::header::{Class, Tag};
-use der_cursor::{Cursor, Refusal};
+use der_cursor::{Cursor, ReadError};
 use std::marker::PhantomData;
 
 /// A value that a list contains, such as a `GeneralName`.
@@ -28,7 +28,7 @@ pub trait Item<'a, E>: Drop {
     ghost view: { Self → Value };
 
     /// Reads the next value.
-    fn read(list: &mut Cursor<'a>) -> Result<Self, Refusal<E>>
+    fn read(list: &mut Cursor<'a>) -> Result<Self, ReadError<E>>
         ensures { ReadsField field view Never list.old result list.new };
 
     // A value has at least one octet, so a list ends.
@@ -38,11 +38,11 @@ pub trait Item<'a, E>: Drop {
 /// An error that can be made from the error of a cursor.
 pub trait FromRefusal: Drop {
     /// Makes this error from the error of a cursor.
-    fn from_refusal(refusal: Refusal<BerError>) -> Refusal<Self>;
+    fn from_refusal(refusal: ReadError<BerError>) -> ReadError<Self>;
 }
 
 impl FromRefusal for BerError {
-    fn from_refusal(refusal: Refusal<BerError>) -> Refusal<BerError> {
+    fn from_refusal(refusal: ReadError<BerError>) -> ReadError<BerError> {
         refusal
     }
 }
@@ -98,7 +98,7 @@ pub(crate) fn read_items<'a, T: Item<'a, E>, E: FromRefusal>(
     fields: &mut Cursor<'a>,
     class: Class,
     tag: Tag,
-) -> Result<&'a [u8], Refusal<E>>
+) -> Result<&'a [u8], ReadError<E>>
     ensures { ReadsField (Required (Constructed class tag.0 (ListOf T.field))) (λ x. x.now) Never
         fields.old result fields.new }
 {
@@ -118,7 +118,7 @@ pub(crate) fn read_some<'a, T: Item<'a, E>, E: FromRefusal>(
     fields: &mut Cursor<'a>,
     class: Class,
     tag: Tag,
-) -> Result<SequenceOf<'a, T>, Refusal<E>>
+) -> Result<SequenceOf<'a, T>, ReadError<E>>
     ensures { ReadsField (Required (Constructed class tag.0 (SomeOf T.field))) list_octets Never
         fields.old result fields.new }
 {
@@ -138,7 +138,7 @@ pub(crate) fn read_optional<'a, T: Item<'a, E>, E: FromRefusal>(
     fields: &mut Cursor<'a>,
     class: Class,
     tag: Tag,
-) -> Result<Option<SequenceOf<'a, T>>, Refusal<E>>
+) -> Result<Option<SequenceOf<'a, T>>, ReadError<E>>
     ensures { ReadsField (Optional (Constructed class tag.0 (SomeOf T.field))) (λ x. option_map list_octets x)
         Never fields.old result fields.new }
 {
@@ -152,7 +152,7 @@ pub(crate) fn read_optional<'a, T: Item<'a, E>, E: FromRefusal>(
 /// Reads a SEQUENCE SIZE (1..MAX) OF values by DER. Trailing data is an error.
 pub(crate) fn read_list<'a, T: Item<'a, E>, E: FromRefusal>(
     octets: &'a [u8],
-) -> Result<SequenceOf<'a, T>, Refusal<E>>
+) -> Result<SequenceOf<'a, T>, ReadError<E>>
     ensures { ReadsWhole (Only (Required (Sequence (SomeOf T.field))) Rules.Der octets.now) list_octets Never result }
 {
     let mut input = Cursor::new(octets);
@@ -166,7 +166,7 @@ pub(crate) fn read_list<'a, T: Item<'a, E>, E: FromRefusal>(
 /// Reads a SEQUENCE OF values by DER, which may be empty. Trailing data is an error.
 pub(crate) fn read_list_of_any<'a, T: Item<'a, E>, E: FromRefusal>(
     octets: &'a [u8],
-) -> Result<SequenceOf<'a, T>, Refusal<E>>
+) -> Result<SequenceOf<'a, T>, ReadError<E>>
     ensures { ReadsWhole (Only (Required (Sequence (ListOf T.field))) Rules.Der octets.now) list_octets Never result }
 {
     let mut input = Cursor::new(octets);

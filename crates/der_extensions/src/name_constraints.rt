@@ -13,7 +13,7 @@ use crate::general_name::{GeneralName, read_general_name};
 use crate::list::{Item, SequenceOf, read_optional};
 use der_base::error::BerError;
 use der_base::header::{Class, Tag};
-use der_cursor::{Cursor, Refusal};
+use der_cursor::{Cursor, ReadError};
 
 /// The value of the extension NameConstraints.
 #[derive(Drop)]
@@ -35,7 +35,7 @@ pub struct GeneralSubtree<'a> {
 }
 
 /// Reads the value of a NameConstraints by DER. Trailing data is an error, and so is a distance above 2^32-1.
-pub fn read_name_constraints(octets: &[u8]) -> Result<NameConstraints<'_>, Refusal<BerError>>
+pub fn read_name_constraints(octets: &[u8]) -> Result<NameConstraints<'_>, ReadError<BerError>>
     ensures { ReadsInput Rules.Der ConstraintsFormat name_constraints_of Never octets.now result }
 {
     match read_whole_constraints(octets) {
@@ -44,7 +44,7 @@ pub fn read_name_constraints(octets: &[u8]) -> Result<NameConstraints<'_>, Refus
     }
 }
 
-fn read_whole_constraints(octets: &[u8]) -> Result<NameConstraints<'_>, Refusal<BerError>>
+fn read_whole_constraints(octets: &[u8]) -> Result<NameConstraints<'_>, ReadError<BerError>>
     ensures { ReadsWhole (Only (Required ConstraintsFormat) Rules.Der octets.now) name_constraints_of Never result }
 {
     let mut input = Cursor::new(octets);
@@ -53,7 +53,7 @@ fn read_whole_constraints(octets: &[u8]) -> Result<NameConstraints<'_>, Refusal<
     Ok(constraints)
 }
 
-fn read_constraints<'a>(input: &mut Cursor<'a>) -> Result<NameConstraints<'a>, Refusal<BerError>>
+fn read_constraints<'a>(input: &mut Cursor<'a>) -> Result<NameConstraints<'a>, ReadError<BerError>>
     ensures { ReadsField (Required ConstraintsFormat) name_constraints_of Never input.old result input.new }
 {
     let mut fields = input.open_sequence()?;
@@ -70,7 +70,7 @@ fn read_constraints<'a>(input: &mut Cursor<'a>) -> Result<NameConstraints<'a>, R
 fn read_subtrees<'a>(
     fields: &mut Cursor<'a>,
     number: u32,
-) -> Result<Option<SequenceOf<'a, GeneralSubtree<'a>>>, Refusal<BerError>>
+) -> Result<Option<SequenceOf<'a, GeneralSubtree<'a>>>, ReadError<BerError>>
     ensures { ReadsField (Optional (Implicit number GeneralSubtrees)) (λ x. option_map list_octets x) Never
         fields.old result fields.new }
 {
@@ -88,14 +88,14 @@ impl<'a> Item<'a, BerError> for GeneralSubtree<'a> {
 
     ghost view = { subtree_of };
 
-    fn read(list: &mut Cursor<'a>) -> Result<GeneralSubtree<'a>, Refusal<BerError>> {
+    fn read(list: &mut Cursor<'a>) -> Result<GeneralSubtree<'a>, ReadError<BerError>> {
         read_subtree(list)
     }
 
     ghost takes = { required_takes SubtreeFormat };
 }
 
-fn read_subtree<'a>(list: &mut Cursor<'a>) -> Result<GeneralSubtree<'a>, Refusal<BerError>>
+fn read_subtree<'a>(list: &mut Cursor<'a>) -> Result<GeneralSubtree<'a>, ReadError<BerError>>
     ensures { ReadsField (Required SubtreeFormat) subtree_of Never list.old result list.new }
 {
     let mut fields = list.open_sequence()?;
@@ -110,13 +110,13 @@ fn read_subtree<'a>(list: &mut Cursor<'a>) -> Result<GeneralSubtree<'a>, Refusal
     })
 }
 
-fn read_minimum(fields: &mut Cursor<'_>) -> Result<u32, Refusal<BerError>>
+fn read_minimum(fields: &mut Cursor<'_>) -> Result<u32, ReadError<BerError>>
     ensures { ReadsField (Default (Implicit 0 BaseDistance) (pos 0)) pos Never fields.old result fields.new }
 {
     fields.implicit(0).u32_or(0)
 }
 
-fn read_maximum(fields: &mut Cursor<'_>) -> Result<Option<u32>, Refusal<BerError>>
+fn read_maximum(fields: &mut Cursor<'_>) -> Result<Option<u32>, ReadError<BerError>>
     ensures { ReadsField (Optional (Implicit 1 BaseDistance)) (λ x. option_map pos x) Never
         fields.old result fields.new }
 {

@@ -4,11 +4,11 @@ ghost use Rattle.der_cursor.specs.Formats.{Never, Null, Only, ReadsInput, ReadsW
 
 use der_base::error::BerError;
 use der_base::header::{Class, Tag};
-use der_cursor::{Cursor, Refusal};
+use der_cursor::{Cursor, ReadError};
 
 /// Reads by DER the value of an extension that says all by being there, a NULL: OCSP no-check (RFC 6960 4.2.2.2.1), the
 /// poison of a precertificate (RFC 6962 3.1), noRevAvail (RFC 9608 2). Trailing data is an error.
-pub fn read_null(octets: &[u8]) -> Result<(), Refusal<BerError>>
+pub fn read_null(octets: &[u8]) -> Result<(), ReadError<BerError>>
     ensures { ReadsInput Rules.Der Null (λ x. x) Never octets.now result }
 {
     match read_whole_null(octets) {
@@ -17,7 +17,7 @@ pub fn read_null(octets: &[u8]) -> Result<(), Refusal<BerError>>
     }
 }
 
-fn read_whole_null(octets: &[u8]) -> Result<(), Refusal<BerError>>
+fn read_whole_null(octets: &[u8]) -> Result<(), ReadError<BerError>>
     ensures { ReadsWhole (Only (Required Null) Rules.Der octets.now) (λ x. x) Never result }
 {
     let mut input = Cursor::new(octets);

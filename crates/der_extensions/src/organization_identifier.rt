@@ -9,7 +9,7 @@ ghost use Rattle.der_extensions.specs.WebExtensions.{organization_identifier_of}
 
 use der_base::error::BerError;
 use der_base::header::{Class, Tag};
-use der_cursor::{Cursor, Refusal};
+use der_cursor::{Cursor, ReadError};
 
 /// The most characters of a state or province.
 const LONGEST_STATE: usize = 128;
@@ -31,7 +31,7 @@ pub struct OrganizationIdentifier<'a> {
 /// of the register is checked.
 pub fn read_organization_identifier(
     octets: &[u8],
-) -> Result<OrganizationIdentifier<'_>, Refusal<BerError>>
+) -> Result<OrganizationIdentifier<'_>, ReadError<BerError>>
     ensures { ReadsInput Rules.Der IdentifierFormat organization_identifier_of Never octets.now result }
 {
     match read_whole_identifier(octets) {
@@ -40,7 +40,7 @@ pub fn read_organization_identifier(
     }
 }
 
-fn read_whole_identifier(octets: &[u8]) -> Result<OrganizationIdentifier<'_>, Refusal<BerError>>
+fn read_whole_identifier(octets: &[u8]) -> Result<OrganizationIdentifier<'_>, ReadError<BerError>>
     ensures { ReadsWhole (Only (Required IdentifierFormat) Rules.Der octets.now) organization_identifier_of Never
         result }
 {
@@ -52,7 +52,7 @@ fn read_whole_identifier(octets: &[u8]) -> Result<OrganizationIdentifier<'_>, Re
 
 fn read_identifier<'a>(
     input: &mut Cursor<'a>,
-) -> Result<OrganizationIdentifier<'a>, Refusal<BerError>>
+) -> Result<OrganizationIdentifier<'a>, ReadError<BerError>>
     ensures { ReadsField (Required IdentifierFormat) organization_identifier_of Never input.old result input.new }
 {
     let mut fields = input.open_sequence()?;
@@ -70,7 +70,7 @@ fn read_identifier<'a>(
 }
 
 /// Reads a PrintableString with this number of characters.
-fn read_text_of<'a>(fields: &mut Cursor<'a>, count: usize) -> Result<&'a str, Refusal<BerError>>
+fn read_text_of<'a>(fields: &mut Cursor<'a>, count: usize) -> Result<&'a str, ReadError<BerError>>
     ensures { ReadsField (Required (TextOf count)) (λ x. x.now) Never fields.old result fields.new }
 {
     let before = *fields;
@@ -82,7 +82,7 @@ fn read_text_of<'a>(fields: &mut Cursor<'a>, count: usize) -> Result<&'a str, Re
 }
 
 /// Reads a state or province under the implicit tag [0], if it is next.
-fn read_state<'a>(fields: &mut Cursor<'a>) -> Result<Option<&'a str>, Refusal<BerError>>
+fn read_state<'a>(fields: &mut Cursor<'a>) -> Result<Option<&'a str>, ReadError<BerError>>
     ensures { ReadsField (Optional (Implicit 0 StateOrProvince)) (λ x. option_map (λ v. v.now) x) Never
         fields.old result fields.new }
 {
@@ -93,7 +93,7 @@ fn read_state<'a>(fields: &mut Cursor<'a>) -> Result<Option<&'a str>, Refusal<Be
     Ok(Some(state))
 }
 
-fn read_tagged_state<'a>(fields: &mut Cursor<'a>) -> Result<&'a str, Refusal<BerError>>
+fn read_tagged_state<'a>(fields: &mut Cursor<'a>) -> Result<&'a str, ReadError<BerError>>
     ensures { ReadsField (Required (Implicit 0 StateOrProvince)) (λ x. x.now) Never fields.old result fields.new }
 {
     let before = *fields;
@@ -104,7 +104,7 @@ fn read_tagged_state<'a>(fields: &mut Cursor<'a>) -> Result<&'a str, Refusal<Ber
     Ok(state)
 }
 
-fn read_tagged_text<'a>(fields: &mut Cursor<'a>) -> Result<&'a str, Refusal<BerError>>
+fn read_tagged_text<'a>(fields: &mut Cursor<'a>) -> Result<&'a str, ReadError<BerError>>
     ensures { ReadsField (Required (Implicit 0 PrintableString)) (λ x. x.now) Never fields.old result fields.new }
 {
     fields.implicit(0).printable_string()

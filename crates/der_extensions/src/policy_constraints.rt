@@ -10,7 +10,7 @@ ghost use Rattle.der_extensions.specs.PolicyExtensions.{policy_constraints_of};
 
 use der_base::error::BerError;
 use der_base::header::{Class, Tag};
-use der_cursor::{Cursor, Refusal};
+use der_cursor::{Cursor, ReadError};
 
 /// The value of the extension PolicyConstraints. Each field is the number of certificates that may follow this one in a
 /// path before its rule applies.
@@ -24,7 +24,7 @@ pub struct PolicyConstraints {
 
 /// Reads the value of a PolicyConstraints by DER. Trailing data is an error, and so is a number above 2^32-1. A value
 /// with neither field is allowed.
-pub fn read_policy_constraints(octets: &[u8]) -> Result<PolicyConstraints, Refusal<BerError>>
+pub fn read_policy_constraints(octets: &[u8]) -> Result<PolicyConstraints, ReadError<BerError>>
     ensures { ReadsInput Rules.Der ConstraintsFormat policy_constraints_of Never octets.now result }
 {
     match read_whole_constraints(octets) {
@@ -33,7 +33,7 @@ pub fn read_policy_constraints(octets: &[u8]) -> Result<PolicyConstraints, Refus
     }
 }
 
-fn read_whole_constraints(octets: &[u8]) -> Result<PolicyConstraints, Refusal<BerError>>
+fn read_whole_constraints(octets: &[u8]) -> Result<PolicyConstraints, ReadError<BerError>>
     ensures { ReadsWhole (Only (Required ConstraintsFormat) Rules.Der octets.now) policy_constraints_of Never result }
 {
     let mut input = Cursor::new(octets);
@@ -42,7 +42,7 @@ fn read_whole_constraints(octets: &[u8]) -> Result<PolicyConstraints, Refusal<Be
     Ok(constraints)
 }
 
-fn read_constraints(input: &mut Cursor<'_>) -> Result<PolicyConstraints, Refusal<BerError>>
+fn read_constraints(input: &mut Cursor<'_>) -> Result<PolicyConstraints, ReadError<BerError>>
     ensures { ReadsField (Required ConstraintsFormat) policy_constraints_of Never input.old result input.new }
 {
     let mut fields = input.open_sequence()?;
@@ -56,7 +56,7 @@ fn read_constraints(input: &mut Cursor<'_>) -> Result<PolicyConstraints, Refusal
 }
 
 /// Reads a SkipCerts under an implicit tag with this number, if it is next.
-fn read_number(fields: &mut Cursor<'_>, number: u32) -> Result<Option<u32>, Refusal<BerError>>
+fn read_number(fields: &mut Cursor<'_>, number: u32) -> Result<Option<u32>, ReadError<BerError>>
     ensures { ReadsField (Optional (Implicit number SkipCerts)) (λ x. option_map pos x) Never
         fields.old result fields.new }
 {
@@ -65,7 +65,7 @@ fn read_number(fields: &mut Cursor<'_>, number: u32) -> Result<Option<u32>, Refu
 
 /// Reads the value of an InhibitAnyPolicy by DER: how many certificates may follow this one in a path before anyPolicy
 /// no longer counts. Trailing data is an error, and so is a number above 2^32-1.
-pub fn read_inhibit_any_policy(octets: &[u8]) -> Result<u32, Refusal<BerError>>
+pub fn read_inhibit_any_policy(octets: &[u8]) -> Result<u32, ReadError<BerError>>
     ensures { ReadsInput Rules.Der SkipCerts pos Never octets.now result }
 {
     match read_whole_number(octets) {
@@ -74,7 +74,7 @@ pub fn read_inhibit_any_policy(octets: &[u8]) -> Result<u32, Refusal<BerError>>
     }
 }
 
-fn read_whole_number(octets: &[u8]) -> Result<u32, Refusal<BerError>>
+fn read_whole_number(octets: &[u8]) -> Result<u32, ReadError<BerError>>
     ensures { ReadsWhole (Only (Required SkipCerts) Rules.Der octets.now) pos Never result }
 {
     let mut input = Cursor::new(octets);

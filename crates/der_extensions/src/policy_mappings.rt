@@ -8,7 +8,7 @@ ghost use Rattle.der_extensions.specs.PolicyExtensions.{PolicyMappings as Mappin
 use crate::list::{Item, SequenceOf, read_list};
 use der_base::error::BerError;
 use der_base::header::{Class, Tag};
-use der_cursor::{Cursor, Refusal};
+use der_cursor::{Cursor, ReadError};
 use der_values::ObjectIdentifier;
 
 /// At least one pair of policies.
@@ -23,7 +23,7 @@ pub struct PolicyMapping<'a> {
 
 /// Reads the value of a PolicyMappings by DER: at least one pair of policies. Trailing data is an error. A pair with
 /// anyPolicy is allowed.
-pub fn read_policy_mappings(octets: &[u8]) -> Result<PolicyMappings<'_>, Refusal<BerError>>
+pub fn read_policy_mappings(octets: &[u8]) -> Result<PolicyMappings<'_>, ReadError<BerError>>
     ensures { ReadsInput Rules.Der MappingsFormat list_octets Never octets.now result }
 {
     match read_list::<PolicyMapping<'_>, BerError>(octets) {
@@ -43,14 +43,14 @@ impl<'a> Item<'a, BerError> for PolicyMapping<'a> {
 
     ghost view = { mapping_of };
 
-    fn read(list: &mut Cursor<'a>) -> Result<PolicyMapping<'a>, Refusal<BerError>> {
+    fn read(list: &mut Cursor<'a>) -> Result<PolicyMapping<'a>, ReadError<BerError>> {
         read_mapping(list)
     }
 
     ghost takes = { required_takes MappingFormat };
 }
 
-fn read_mapping<'a>(list: &mut Cursor<'a>) -> Result<PolicyMapping<'a>, Refusal<BerError>>
+fn read_mapping<'a>(list: &mut Cursor<'a>) -> Result<PolicyMapping<'a>, ReadError<BerError>>
     ensures { ReadsField (Required MappingFormat) mapping_of Never list.old result list.new }
 {
     let mut fields = list.open_sequence()?;

@@ -10,7 +10,7 @@ use crate::list::{Item, SequenceOf, read_list_of_any};
 use der_base::any::Any;
 use der_base::error::BerError;
 use der_base::header::{Class, Tag};
-use der_cursor::{Cursor, Refusal};
+use der_cursor::{Cursor, ReadError};
 use der_values::ObjectIdentifier;
 
 /// Any number of statements.
@@ -25,7 +25,7 @@ pub struct QcStatement<'a> {
 }
 
 /// Reads the value of a qcStatements by DER: any number of statements. Trailing data is an error.
-pub fn read_qc_statements(octets: &[u8]) -> Result<QcStatements<'_>, Refusal<BerError>>
+pub fn read_qc_statements(octets: &[u8]) -> Result<QcStatements<'_>, ReadError<BerError>>
     ensures { ReadsInput Rules.Der StatementsFormat list_octets Never octets.now result }
 {
     match read_list_of_any::<QcStatement<'_>, BerError>(octets) {
@@ -45,14 +45,14 @@ impl<'a> Item<'a, BerError> for QcStatement<'a> {
 
     ghost view = { statement_of };
 
-    fn read(list: &mut Cursor<'a>) -> Result<QcStatement<'a>, Refusal<BerError>> {
+    fn read(list: &mut Cursor<'a>) -> Result<QcStatement<'a>, ReadError<BerError>> {
         read_statement(list)
     }
 
     ghost takes = { required_takes StatementFormat };
 }
 
-fn read_statement<'a>(list: &mut Cursor<'a>) -> Result<QcStatement<'a>, Refusal<BerError>>
+fn read_statement<'a>(list: &mut Cursor<'a>) -> Result<QcStatement<'a>, ReadError<BerError>>
     ensures { ReadsField (Required StatementFormat) statement_of Never list.old result list.new }
 {
     let mut fields = list.open_sequence()?;
@@ -66,7 +66,7 @@ fn read_statement<'a>(list: &mut Cursor<'a>) -> Result<QcStatement<'a>, Refusal<
 }
 
 /// Reads an element of any type, if octets are left.
-fn read_info<'a>(fields: &mut Cursor<'a>) -> Result<Option<Any<'a>>, Refusal<BerError>>
+fn read_info<'a>(fields: &mut Cursor<'a>) -> Result<Option<Any<'a>>, ReadError<BerError>>
     ensures { ReadsField (IfLeft AnyElement) (λ x. option_map element_of x) Never fields.old result fields.new }
 {
     if fields.is_empty() {

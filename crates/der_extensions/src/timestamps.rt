@@ -9,7 +9,7 @@ ghost use Rattle.der_extensions.specs.WebExtensions.{timestamps_octets};
 
 use der_base::error::BerError;
 use der_base::header::{Class, Tag};
-use der_cursor::{Cursor, Refusal};
+use der_cursor::{Cursor, ReadError};
 
 /// At least one timestamp with the signature of a log. They are kept as their checked octets.
 #[derive(Clone, Copy)]
@@ -54,7 +54,7 @@ impl<'a> Iterator for TimestampIter<'a> {
 /// content of a timestamp isn't checked.
 pub fn read_signed_certificate_timestamps(
     octets: &[u8],
-) -> Result<SignedCertificateTimestamps<'_>, Refusal<BerError>>
+) -> Result<SignedCertificateTimestamps<'_>, ReadError<BerError>>
     ensures { ReadsInput Rules.Der Timestamps timestamps_octets Never octets.now result }
 {
     match read_whole_list(octets) {
@@ -68,7 +68,7 @@ pub fn read_signed_certificate_timestamps(
     }
 }
 
-fn read_whole_list(octets: &[u8]) -> Result<SignedCertificateTimestamps<'_>, Refusal<BerError>>
+fn read_whole_list(octets: &[u8]) -> Result<SignedCertificateTimestamps<'_>, ReadError<BerError>>
     ensures { ReadsWhole (Only (Required Timestamps) Rules.Der octets.now) timestamps_octets Never result }
 {
     let mut input = Cursor::new(octets);
@@ -79,7 +79,7 @@ fn read_whole_list(octets: &[u8]) -> Result<SignedCertificateTimestamps<'_>, Ref
 
 fn read_timestamps<'a>(
     input: &mut Cursor<'a>,
-) -> Result<SignedCertificateTimestamps<'a>, Refusal<BerError>>
+) -> Result<SignedCertificateTimestamps<'a>, ReadError<BerError>>
     ensures { ReadsField (Required Timestamps) timestamps_octets Never input.old result input.new }
 {
     let content = input.open_octet_string()?;
@@ -89,7 +89,7 @@ fn read_timestamps<'a>(
 /// Reads the content octets of the OCTET STRING.
 fn read_content<'a>(
     content: Cursor<'a>,
-) -> Result<SignedCertificateTimestamps<'a>, Refusal<BerError>>
+) -> Result<SignedCertificateTimestamps<'a>, ReadError<BerError>>
     ensures { ReadsContent TimestampList timestamps_octets Never content.entry result }
 {
     let Some(octets) = only_vector(content.remaining()) else {

@@ -7,7 +7,7 @@ ghost use Rattle.der_extensions.specs.WebExtensions.{Feature, Features, feature_
 use crate::list::{Item, SequenceOf, read_list_of_any};
 use der_base::error::BerError;
 use der_base::header::{Class, Tag};
-use der_cursor::{Cursor, Refusal};
+use der_cursor::{Cursor, ReadError};
 
 /// Any number of features.
 pub type TlsFeatures<'a> = SequenceOf<'a, TlsFeature>;
@@ -21,7 +21,7 @@ pub struct TlsFeature {
 
 /// Reads the value of a TLS feature by DER (RFC 7633 4.1): any number of numbers. Trailing data is an error, and so is
 /// a number that is negative or above 2^32-1.
-pub fn read_tls_features(octets: &[u8]) -> Result<TlsFeatures<'_>, Refusal<BerError>>
+pub fn read_tls_features(octets: &[u8]) -> Result<TlsFeatures<'_>, ReadError<BerError>>
     ensures { ReadsInput Rules.Der Features list_octets Never octets.now result }
 {
     match read_list_of_any::<TlsFeature, BerError>(octets) {
@@ -42,14 +42,14 @@ impl<'a> Item<'a, BerError> for TlsFeature {
 
     ghost view = { feature_of };
 
-    fn read(features: &mut Cursor<'a>) -> Result<TlsFeature, Refusal<BerError>> {
+    fn read(features: &mut Cursor<'a>) -> Result<TlsFeature, ReadError<BerError>> {
         read_feature(features)
     }
 
     ghost takes = { required_takes Feature };
 }
 
-fn read_feature(features: &mut Cursor<'_>) -> Result<TlsFeature, Refusal<BerError>>
+fn read_feature(features: &mut Cursor<'_>) -> Result<TlsFeature, ReadError<BerError>>
     ensures { ReadsField (Required Feature) feature_of Never features.old result features.new }
 {
     let number = features.u32()?;

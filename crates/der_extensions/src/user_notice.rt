@@ -10,7 +10,7 @@ ghost use Rattle.der_extensions.specs.Notices.{UserNotice as NoticeFormat, notic
 use der_base::any::Any;
 use der_base::error::BerError;
 use der_base::header::{Class, Tag};
-use der_cursor::{Cursor, Refusal};
+use der_cursor::{Cursor, ReadError};
 
 /// id-qt-unotice: 1.3.6.1.5.5.7.2.2.
 pub const USER_NOTICE: &[u8] = b"\x2b\x06\x01\x05\x05\x07\x02\x02";
@@ -33,7 +33,7 @@ pub struct NoticeReference<'a> {
 }
 
 /// Reads a qualifier as a user notice, by DER. Which types its texts have isn't checked.
-pub fn read_user_notice<'a>(element: &Any<'a>) -> Result<UserNotice<'a>, Refusal<BerError>>
+pub fn read_user_notice<'a>(element: &Any<'a>) -> Result<UserNotice<'a>, ReadError<BerError>>
     ensures { ReadsWhole (IsUserNotice (element_of element.now)) notice_of Never result }
 {
     let content = Cursor::new(element.bytes);
@@ -52,7 +52,7 @@ fn is_sequence(element: &Any<'_>) -> bool
 }
 
 /// Reads the content of a UserNotice.
-fn read_content(content: Cursor<'_>) -> Result<UserNotice<'_>, Refusal<BerError>>
+fn read_content(content: Cursor<'_>) -> Result<UserNotice<'_>, ReadError<BerError>>
     ensures { ReadsContent NoticeFormat notice_of Never content.entry result }
 {
     let mut fields = content;
@@ -67,7 +67,7 @@ fn read_content(content: Cursor<'_>) -> Result<UserNotice<'_>, Refusal<BerError>
 
 fn read_optional_reference<'a>(
     fields: &mut Cursor<'a>,
-) -> Result<Option<NoticeReference<'a>>, Refusal<BerError>>
+) -> Result<Option<NoticeReference<'a>>, ReadError<BerError>>
     ensures { ReadsField (Optional ReferenceFormat) (λ x. option_map reference_of x) Never
         fields.old result fields.new }
 {
@@ -78,7 +78,7 @@ fn read_optional_reference<'a>(
     Ok(Some(reference))
 }
 
-fn read_reference<'a>(fields: &mut Cursor<'a>) -> Result<NoticeReference<'a>, Refusal<BerError>>
+fn read_reference<'a>(fields: &mut Cursor<'a>) -> Result<NoticeReference<'a>, ReadError<BerError>>
     ensures { ReadsField (Required ReferenceFormat) reference_of Never fields.old result fields.new }
 {
     let mut parts = fields.open_sequence()?;
@@ -92,7 +92,7 @@ fn read_reference<'a>(fields: &mut Cursor<'a>) -> Result<NoticeReference<'a>, Re
 }
 
 /// Reads an element of any type, if octets are left.
-fn read_optional_text<'a>(fields: &mut Cursor<'a>) -> Result<Option<Any<'a>>, Refusal<BerError>>
+fn read_optional_text<'a>(fields: &mut Cursor<'a>) -> Result<Option<Any<'a>>, ReadError<BerError>>
     ensures { ReadsField (IfLeft AnyElement) (λ x. option_map element_of x) Never fields.old result fields.new }
 {
     if fields.is_empty() {

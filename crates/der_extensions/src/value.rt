@@ -35,7 +35,7 @@ use crate::tls_feature::{TlsFeatures, read_tls_features};
 use crate::value::ExtensionValue as Value;
 use der_base::error::BerError;
 use der_base::time::ASN1DateTime;
-use der_cursor::Refusal;
+use der_cursor::ReadError;
 use x509::{Extension, absolute_octets};
 
 /// What an extension says.
@@ -117,7 +117,7 @@ pub enum ExtensionValue<'a> {
 /// ```
 pub fn read_extension_value<'a>(
     extension: &Extension<'a>,
-) -> Result<ExtensionValue<'a>, Refusal<BerError>>
+) -> Result<ExtensionValue<'a>, ReadError<BerError>>
     ensures { ReadsExtension extension.now result }
 {
     match known_extension(absolute_octets(&extension.identifier)) {
@@ -128,7 +128,7 @@ pub fn read_extension_value<'a>(
 
 /// Reads the value of this extension.
 #[rattlefmt::skip]
-fn read_as(known: Known, value: &[u8]) -> Result<ExtensionValue<'_>, Refusal<BerError>>
+fn read_as(known: Known, value: &[u8]) -> Result<ExtensionValue<'_>, ReadError<BerError>>
     ensures { ReadsAs value.now result known }
 {
     match known {

@@ -12,7 +12,7 @@ use crate::numbered::{
 use crate::signs;
 use der_base::rules::Rules;
 use der_schema::schema::{Component, Schema};
-use der_schema::{KnownType, first_named, first_of};
+use der_schema::{KnownType, first_named, first_of, first_with_letters};
 
 /// A known type: its name in the document that defines it, its index, and its signs. Signs are given only if the
 /// elements alone don't tell the type.
@@ -77,7 +77,7 @@ pub struct KnownTypes {
 }
 
 impl KnownTypes {
-    ghost use Rattle.der_schema.specs.Known.{IsFirstSchema, IsKnownType};
+    ghost use Rattle.der_schema.specs.Known.{IsFirstSchema, IsKnownType, SameLetters};
     ghost use Rattle.der_schema.specs.Meaning.{all_types};
     ghost use Rattle.der_known.specs.Tables.{AreKnown};
 
@@ -103,6 +103,13 @@ impl KnownTypes {
         ensures { IsFirstSchema (λ k. k.name.now ≡ name.now) self.now.known.now (all_types self.now.types) result }
     {
         first_named(self.known, &self.types[..], name)
+    }
+
+    /// The type with this name, in any case of its letters.
+    pub fn type_with_letters(&self, name: &str) -> Option<Schema<'_>>
+        ensures { IsFirstSchema (λ k. SameLetters k.name.now name.now) self.now.known.now (all_types self.now.types) result }
+    {
+        first_with_letters(self.known, &self.types[..], name)
     }
 
     /// The first known type that the input has. The input is then valid by these rules, each element has a name, no

@@ -101,7 +101,7 @@ pub mod der {
 
 /// Reading field after field, with the offset of an error.
 pub mod cursor {
-    pub use der_cursor::{AsBerError, Cursor, FieldRefusal, Named, Refusal};
+    pub use der_cursor::{AsBerError, Cursor, FieldError, Named, ReadError};
 }
 
 /// Values of content octets, by BER and by DER.

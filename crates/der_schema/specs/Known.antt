@@ -1,5 +1,6 @@
 -- The type of an input.
-use Rattle.std.specs.Prelude.{◌≡◌, ℕ, true, Option, MatchOption, List, [], ◌∷◌, ◌++◌, slice_get}
+use Rattle.std.specs.Prelude.{◌≡◌, ℕ, true, Option, MatchOption, List, [], ◌∷◌, ◌++◌, map, slice_get}
+use Rattle.std.specs.Char.{to_ascii_lowercase}
 use Rattle.std.specs.List.{All, list_all}
 use Rattle.std.specs.Option.{is_some, option_to_list}
 use Rattle.der_base.specs.declared.rules.Rules.{Rules}
@@ -55,6 +56,10 @@ pub record IsKnownType (ts : List Component) (r : Rules) (i : List ℕ) (k : Kno
 pub record IsSchemaOf (ts : List Component) (k : KnownType) (sc : Schema) : Type 0 where
   pub root : root_of sc ≡ root_at ts k
   pub name : sc.name.now ≡ k.name.now
+
+-- two names have the same letters, in any case
+abbrev pub SameLetters : List ℕ → List ℕ → Type 0
+SameLetters name other = map to_ascii_lowercase name ≡ map to_ascii_lowercase other
 
 -- the first of these types for which P holds
 pub record IsFirstOf (P : KnownType → Type 0) (ks : List KnownType) (k : KnownType) : Type 0 where

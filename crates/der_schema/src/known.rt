@@ -1,6 +1,6 @@
 //! The type of an input, from a list of types.
 ghost use Rattle.std.specs.Prelude.{◌≡◌, ◌↔◌, IsTrue};
-ghost use Rattle.der_schema.specs.Known.{IsKnownType, IsOfType, IsFirstSchema, IsSchemaOf, components_at};
+ghost use Rattle.der_schema.specs.Known.{IsKnownType, IsOfType, IsFirstSchema, IsSchemaOf, SameLetters, components_at};
 ghost use Rattle.der_schema.specs.Meaning.{all_types, root_of};
 
 use crate::beginning::Beginning;
@@ -91,6 +91,25 @@ pub fn first_named<'a>(
     let mut ahead = known;
     while let Some((one, rest)) = ahead.split_first() {
         if one.name == name {
+            return Some(schema_of(one, types));
+        }
+        ahead = rest;
+    }
+    None
+}
+
+/// The first of these types with this name, in any case of its letters. A component refers to a type in `types` by
+/// index.
+pub fn first_with_letters<'a>(
+    known: &'static [KnownType],
+    types: &'a [&'static Component],
+    name: &str,
+) -> Option<Schema<'a>>
+    ensures { IsFirstSchema (λ k. SameLetters k.name.now name.now) known.now (all_types types.now) result }
+{
+    let mut ahead = known;
+    while let Some((one, rest)) = ahead.split_first() {
+        if one.name.eq_ignore_ascii_case(name) {
             return Some(schema_of(one, types));
         }
         ahead = rest;

@@ -13,7 +13,7 @@ pub mod schema;
 mod sign;
 pub mod words;
 
-pub use known::{KnownType, first_named, first_of, is_of_type};
+pub use known::{KnownType, first_named, first_of, first_with_letters, is_of_type};
 pub use matching::{Name, content_of};
 pub use name_path::{NamePath, NameStep};
 pub use namer::Namer;

@@ -1,11 +1,11 @@
 -- Which of three errors comes first.
 use Rattle.std.proofs.Common.{◌≡◌, ℕ, ◌<◌, ◌≤◌, ◌⊎◌, Bool, true, false, if◌then◌else◌, nat_le, List, Some, refl, inl, inr, arith}
 use Rattle.std.proofs.lemmas.Bool.Decides.{nat_tests}
-use Rattle.x509.specs.declared.crl.refusal.ListRefusal.{ListRefusal}
+use Rattle.x509.specs.declared.crl.error.CertificateListError.{CertificateListError}
 use Rattle.x509.specs.Crl.Lists.{field_fault as list_fault, whole_list}
-use Rattle.x509_keys.specs.declared.request.refusal.RequestRefusal.{RequestRefusal}
+use Rattle.x509_keys.specs.declared.request.error.CertificationRequestError.{CertificationRequestError}
 use Rattle.x509_keys.specs.Request.Requests.{field_fault as request_fault, whole_request}
-use Rattle.x509.specs.declared.refusal.CertificateRefusal.{CertificateRefusal}
+use Rattle.x509.specs.declared.error.CertificateError.{CertificateError}
 use Rattle.x509.specs.Certificates.{whole_certificate}
 use Rattle.x509.specs.Readers.{field_fault as certificate_fault}
 use Rattle.der_show.specs.declared.refused.Refused.{Refused}
@@ -42,7 +42,7 @@ last_order (Certificate e) = omega arith
 last_order (CertificateList e) = omega arith
 last_order (CertificationRequest e) = omega arith
 
-module _ (i : List ℕ) (a : CertificateRefusal) (b : ListRefusal) (c : RequestRefusal)
+module _ (i : List ℕ) (a : CertificateError) (b : CertificateListError) (c : CertificationRequestError)
     (p : IsWhyNo certificate_fault (λ y. y.refusal.offset) whole_certificate i a)
     (q : IsWhyNo list_fault (λ y. y.refusal.offset) whole_list i b)
     (r : IsWhyNo request_fault (λ y. y.refusal.offset) whole_request i c) where

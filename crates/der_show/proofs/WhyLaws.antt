@@ -6,7 +6,7 @@ use Rattle.extension_text.specs.declared.why.Why.{Why}
 use Rattle.extension_text.specs.Why.{why_of}
 use Rattle.der_base.specs.declared.error.Error.{Error as BerError}
 use Rattle.der_base.specs.declared.header.Class.{Class}
-use Rattle.der_cursor.specs.declared.refusal.Refusal.{Refusal}
+use Rattle.der_cursor.specs.declared.error.ReadError.{ReadError}
 use Rattle.der_elements.specs.declared.name.TypeName.{TypeName}
 use Rattle.der_show.specs.declared.place.Place.{Place}
 use Rattle.der_show.specs.declared.refused.Refused.{Refused}
@@ -17,7 +17,7 @@ name_same : (n : TypeName) (c : Class) (k : ℕ) → n.class ≡ c → n.number 
 name_same n c k e m =
     subst (λ x. n ≡ record { class = c; number = x }) m (subst (λ x. n ≡ record { class = x; number = n.number }) e refl)
 
-pub why_there : (r : Refused) (place : Option (Bor Place)) (w : Bor Place) (n : TypeName) {e : Refusal BerError}
+pub why_there : (r : Refused) (place : Option (Bor Place)) (w : Bor Place) (n : TypeName) {e : ReadError BerError}
     {wrong why : Why} → place ≡ Some w → e ≡ refusal_of r → n.class ≡ w.now.element.class
     → n.number ≡ w.now.element.number → IsWhyWrong r w.now.element wrong → why ≡ why_of e (Some n) wrong
     → IsWhy r (option_copied place) why

@@ -12,7 +12,7 @@ use Rattle.der_schema.specs.Known.{all_extras}
 use Rattle.der_schema.specs.Meaning.{Root}
 use Rattle.der_schema.specs.NamePaths.{name_step}
 use Rattle.der_schema.specs.Steps.{label_of}
-use Rattle.der_elements.specs.declared.refusal.Refusal.{Refusal}
+use Rattle.der_elements.specs.declared.error.ElementError.{ElementError}
 use Rattle.der_elements.specs.declared.walk.Walk.{Walk}
 use Rattle.der_elements.specs.Visits.{Visited, Visits}
 use Rattle.der_elements.specs.Walked.{HasOctets, HasVisited, IsRefused, index_in, visited_of}
@@ -61,7 +61,7 @@ pub record StandsAt (sc : Root) (i : List ℕ) (offset : ℕ) (p : Place) : Type
 pub record NoneStandsAt (i : List ℕ) (offset : ℕ) : Type 0 where
   pub elements : List Visited
   pub ended : Visits all_extras Ber 101 0 0 i elements
-      ⊎ ((w : Walk) × (f : Refusal) × IsRefused all_extras Ber i elements w f)
+      ⊎ ((w : Walk) × (f : ElementError) × IsRefused all_extras Ber i elements w f)
   pub none : All (λ v. v.offset ≢ offset) elements
 
 -- the position of the element that begins at an offset, if one does

@@ -2,9 +2,9 @@
 use Rattle.std.specs.Prelude.{◌≡◌, ℕ, ◌<◌, ◌≤◌, ◌⊎◌, nat_le, if◌then◌else◌, List, codes}
 use Rattle.x509.specs.Crl.Lists.{field_fault as list_fault, whole_list}
 use Rattle.der_base.specs.declared.error.Error.{Error as BerError}
-use Rattle.der_cursor.specs.declared.refusal.Refusal.{Refusal}
+use Rattle.der_cursor.specs.declared.error.ReadError.{ReadError}
 use Rattle.x509_keys.specs.Request.Requests.{field_fault as request_fault, whole_request}
-use Rattle.x509.specs.declared.refusal.Field.TheVariants.{Version}
+use Rattle.x509.specs.declared.error.Field.TheVariants.{Version}
 use Rattle.x509.specs.Certificates.{whole_certificate}
 use Rattle.x509.specs.Formats.{refuses, start}
 use Rattle.x509.specs.Readers.{field_fault as certificate_fault}
@@ -12,7 +12,7 @@ use Rattle.der_show.specs.declared.refused.Refused.{Refused}
 use Rattle.der_show.specs.declared.refused.Refused.TheVariants.{Certificate, CertificateList, CertificationRequest}
 
 -- the offset and the reason
-abbrev pub refusal_of : Refused → Refusal BerError
+abbrev pub refusal_of : Refused → ReadError BerError
 refusal_of (Certificate e) = e.refusal
 refusal_of (CertificateList e) = e.refusal
 refusal_of (CertificationRequest e) = e.refusal

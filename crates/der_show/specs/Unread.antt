@@ -1,18 +1,18 @@
 -- Why octets aren't a certificate, CRL or certification request, and where the error is.
 use Rattle.std.specs.Prelude.{◌≡◌, ℕ, ◌⊎◌, Option, Some, None, MatchOption, List}
 use Rattle.x509.specs.declared.crl.list.CertificateList.{CertificateList as ListStruct}
-use Rattle.x509.specs.declared.crl.refusal.ListRefusal.{ListRefusal}
+use Rattle.x509.specs.declared.crl.error.CertificateListError.{CertificateListError}
 use Rattle.x509.specs.Crl.Lists.{field_fault as list_fault, whole_list}
 use Rattle.der_known.specs.declared.known.KnownTypes.{KnownTypes}
 use Rattle.der_known.specs.Tables.{AreKnown}
 use Rattle.x509_keys.specs.declared.request.CertificationRequest.{CertificationRequest as RequestStruct}
-use Rattle.x509_keys.specs.declared.request.refusal.RequestRefusal.{RequestRefusal}
+use Rattle.x509_keys.specs.declared.request.error.CertificationRequestError.{CertificationRequestError}
 use Rattle.x509_keys.specs.Request.Requests.{field_fault as request_fault, whole_request}
 use Rattle.der_schema.specs.declared.schema.Schema.{Schema}
 use Rattle.der_schema.specs.Known.{IsFirstSchema}
 use Rattle.der_schema.specs.Meaning.{all_types, root_of}
 use Rattle.x509.specs.declared.certificate.Certificate.{Certificate as CertificateStruct}
-use Rattle.x509.specs.declared.refusal.CertificateRefusal.{CertificateRefusal}
+use Rattle.x509.specs.declared.error.CertificateError.{CertificateError}
 use Rattle.x509.specs.Certificates.{whole_certificate}
 use Rattle.x509.specs.Formats.{Format, refuses, start}
 use Rattle.x509.specs.Readers.{field_fault as certificate_fault}
@@ -67,16 +67,16 @@ pub record IsWhyNo {X E V : Type 0} (fault : X → E) (offset : X → ℕ) (f : 
   pub only : (x : X) → refuses f (start i) (fault x) → offset x ≡ offset e
 
 abbrev pub IsWhyNoCertificate : List ℕ → Option Refused → Type 0
-IsWhyNoCertificate i (Some e) = (x : CertificateRefusal) × (e ≡ Certificate x)
+IsWhyNoCertificate i (Some e) = (x : CertificateError) × (e ≡ Certificate x)
     × IsWhyNo certificate_fault (λ y. y.refusal.offset) whole_certificate i x
 IsWhyNoCertificate i None = (c : CertificateStruct) × Is i (known.Certificate c)
 
 abbrev pub IsWhyNoList : List ℕ → Option Refused → Type 0
-IsWhyNoList i (Some e) = (x : ListRefusal) × (e ≡ CertificateList x)
+IsWhyNoList i (Some e) = (x : CertificateListError) × (e ≡ CertificateList x)
     × IsWhyNo list_fault (λ y. y.refusal.offset) whole_list i x
 IsWhyNoList i None = (l : ListStruct) × Is i (known.CertificateList l)
 
 abbrev pub IsWhyNoRequest : List ℕ → Option Refused → Type 0
-IsWhyNoRequest i (Some e) = (x : RequestRefusal) × (e ≡ CertificationRequest x)
+IsWhyNoRequest i (Some e) = (x : CertificationRequestError) × (e ≡ CertificationRequest x)
     × IsWhyNo request_fault (λ y. y.refusal.offset) whole_request i x
 IsWhyNoRequest i None = (r : RequestStruct) × Is i (known.CertificationRequest r)

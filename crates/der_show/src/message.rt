@@ -12,7 +12,7 @@ use crate::ldap_message::ldap_words;
 use crate::snmp_message::snmp_words;
 use crate::words::Words;
 use der_base::error::Err as Refused;
-use der_cursor::FieldRefusal;
+use der_cursor::FieldError;
 use der_known::KnownTypes;
 use std::alloc::{AllocError, Global};
 
@@ -89,7 +89,7 @@ fn from_snmp(alloc: Global, octets: &[u8], types: &KnownTypes) -> FoundWords
 }
 
 /// No summary, where a reader returned this error, but an error where it had no memory.
-pub(crate) fn none_after(e: &FieldRefusal) -> FoundWords
+pub(crate) fn none_after(e: &FieldError) -> FoundWords
     ensures { let reason = e.now.refusal.reason in
         MatchResult result (λ found. (found ≡ None) × (reason ≢ OutOfMemory)) (λ _. reason ≡ OutOfMemory) }
 {

@@ -5,26 +5,26 @@ ghost use Rattle.der_show.specs.Refused.{IsOfCertificate, IsVersion, further, of
 
 use certificate_text::is_at_end;
 use der_base::error::BerError;
-use der_cursor::Refusal;
+use der_cursor::ReadError;
 use std::fmt;
-use x509::crl::ListRefusal;
-use x509::{CertificateRefusal, Field};
-use x509_keys::request::RequestRefusal;
+use x509::crl::CertificateListError;
+use x509::{CertificateError, Field};
+use x509_keys::request::CertificationRequestError;
 
 /// The error of one of these readers.
 #[derive(Drop)]
 pub enum Refused {
     /// The error as a certificate.
-    Certificate(CertificateRefusal),
+    Certificate(CertificateError),
     /// The error as a CRL.
-    CertificateList(ListRefusal),
+    CertificateList(CertificateListError),
     /// The error as a certification request.
-    CertificationRequest(RequestRefusal),
+    CertificationRequest(CertificationRequestError),
 }
 
 impl Refused {
     /// The offset and the reason.
-    pub fn refusal(&self) -> &Refusal<BerError>
+    pub fn refusal(&self) -> &ReadError<BerError>
         ensures { result.now ≡ refusal_of self.now }
     {
         match self {

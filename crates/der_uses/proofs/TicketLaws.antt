@@ -6,7 +6,7 @@ use Rattle.der_parser.specs.declared.error.ErrorKind.{ErrorKind}
 use Rattle.der_parser.specs.declared.Rules.TheVariants.{Der}
 use Rattle.der_parser.specs.declared.ber.Any.{Any}
 use Rattle.der_parser.specs.declared.cursor.Cursor.{Cursor}
-use Rattle.der_parser.specs.declared.cursor.Refusal.{Refusal}
+use Rattle.der_parser.specs.declared.cursor.ReadError.{ReadError}
 use Rattle.der_parser.specs.Any.{AnswersDerAny}
 use Rattle.der_parser.specs.Containers.{Answered}
 use Rattle.der_parser.specs.Cursors.{IsLast, Reads, ReadsLast, advanced, octets_left}
@@ -22,7 +22,7 @@ use Rattle.der_uses.specs.Uses.{AnyOfDer, NumberOf}
 left_behind : (old new : Cursor) (rest : Bor (List ℕ)) → new ≡ advanced old rest → (octets_left new ≡ rest.now) × (new ≡ advanced old new.left)
 left_behind old new rest q = (ap (λ c. c.left.now) q, q ∙ ap (λ b. advanced old b) (sym (ap (λ c. c.left) q)))
 
-pub number_read : {old new : Cursor} (result : Result ℕ (Refusal BerError))
+pub number_read : {old new : Cursor} (result : Result ℕ (ReadError BerError))
     → Reads (λ (i : Bor (List ℕ)) (r : Answered ℕ BerError). AnswersDerNumber pos (unsigned 64) i.now r) old result new → ReadsField (NumberOf (unsigned 64)) pos Never old result new
 number_read {old = old} {new = new} (Ok n) (rest, a, q) fresh =
     let b = left_behind old new rest q in
@@ -33,7 +33,7 @@ number_read {old = old} {new = new} (Ok n) (rest, a, q) fresh =
 number_read {old = old} (Err e) (a, q, s) fresh =
     record { found = tt; only = λ v after z. never _ e.reason (a.only (v, after) z) }
 
-any_read : {old new : Cursor} (result : Result Any (Refusal BerError))
+any_read : {old new : Cursor} (result : Result Any (ReadError BerError))
     → Reads (λ (i : Bor (List ℕ)) (r : Answered Any BerError). AnswersDerAny i.now r) old result new → ReadsField AnyOfDer element_of Never old result new
 any_read {old = old} {new = new} (Ok x) (rest, a, q) fresh =
     let b = left_behind old new rest q in
@@ -49,12 +49,12 @@ any_read {old = old} {new = new} (Ok x) (rest, a, q) fresh =
 any_read {old = old} (Err e) (a, q, s) fresh =
     record { found = tt; only = λ v after z. never _ e.reason (a.only (record { class = v.0; constructed = v.1; number = v.2; content = v.3; rest = after }) z.0) }
 
-ended : {c d : Cursor} (made : Bor (List ℕ) → ErrorKind → BerError → Type 0) (v : Any) (result : Result Any (Refusal BerError)) → IsLast made v d result → ReadsField {E = Refusal BerError} AnyOfDer element_of Never c (Ok v) d
+ended : {c d : Cursor} (made : Bor (List ℕ) → ErrorKind → BerError → Type 0) (v : Any) (result : Result Any (ReadError BerError)) → IsLast made v d result → ReadsField {E = ReadError BerError} AnyOfDer element_of Never c (Ok v) d
     → ReadsContent (Only AnyOfDer) element_of Never c result
 ended made v (Ok x) (q, e) h = rw e (only_read h q)
 ended made v (Err e) l h = only_left h l.0
 
-pub last_read : (c : Cursor) (result : Result Any (Refusal BerError))
+pub last_read : (c : Cursor) (result : Result Any (ReadError BerError))
     → ReadsLast (λ (i : Bor (List ℕ)) (r : Answered Any BerError). AnswersDerAny i.now r) (λ (i : Bor (List ℕ)) (k : ErrorKind) (e : BerError). e ≡ NomError k) c result → ReadsContent (Only AnyOfDer) element_of Never c result
 last_read c result (inl (e, q, h)) = rw q (only_stops (subst (λ r. ReadsField AnyOfDer element_of Never c r c) q (any_read {old = c} {new = c} result h)))
 last_read c result (inr (v, d, h, l)) = ended (λ (i : Bor (List ℕ)) (k : ErrorKind) (e : BerError). e ≡ NomError k) v result l (any_read {old = c} {new = d} (Ok v) h)

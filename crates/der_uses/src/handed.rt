@@ -10,7 +10,7 @@ ghost use Rattle.der_parser.specs.View.{tree};
 ghost use Rattle.der_uses.specs.Uses.{Begins, BeginsWithElementOf, IsSequenceOf, NumberOf, TicketFields, ticket_of};
 
 use der_parser::ber::Any;
-use der_parser::cursor::{Cursor, Refusal};
+use der_parser::cursor::{Cursor, ReadError};
 use der_parser::der::{
     parse_der_integer, parse_der_sequence_of, parse_der_sequence_of_v, parse_der_u32, parse_der_u64,
 };
@@ -29,7 +29,7 @@ pub struct Ticket<'a> {
 }
 
 /// Reads field after field with the library's readers.
-pub fn read_ticket(input: &[u8]) -> Result<Ticket<'_>, Refusal<BerError>>
+pub fn read_ticket(input: &[u8]) -> Result<Ticket<'_>, ReadError<BerError>>
     ensures { ReadsWhole (Begins (Required (Sequence TicketFields)) input.now) ticket_of Never result }
 {
     let mut fields = Cursor::new(input).open_sequence()?;
@@ -49,7 +49,7 @@ pub fn read_ticket(input: &[u8]) -> Result<Ticket<'_>, Refusal<BerError>>
 pub fn read_identifiers(
     alloc: Global,
     input: &[u8],
-) -> Result<Vec<ObjectIdentifier<'_>>, Refusal<BerError>>
+) -> Result<Vec<ObjectIdentifier<'_>>, ReadError<BerError>>
     ensures { ReadsWhole (Begins (Required (Sequence (Each (Required Identifier)))) input.now)
         (λ v. map borrowed_octets v.items) NoMemory result }
 {
@@ -61,7 +61,7 @@ pub fn read_identifiers(
 fn read_identifier<'a>(
     _alloc: Global,
     list: &mut Cursor<'a>,
-) -> Result<ObjectIdentifier<'a>, Refusal<BerError>>
+) -> Result<ObjectIdentifier<'a>, ReadError<BerError>>
     ensures { ReadsField (Required Identifier) borrowed_octets Never list.old result list.new }
 {
     list.oid()

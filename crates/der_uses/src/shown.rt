@@ -16,7 +16,7 @@ ghost use Rattle.der_uses.specs.Uses.{IsNotRewritten, IsPair, IsRewritten, Numbe
 use der_parser::ber::{
     BerObject, BerObjectContent, FaultWriter, Visit, ber_encode_object, parse_ber,
 };
-use der_parser::cursor::{Cursor, Refusal};
+use der_parser::cursor::{Cursor, ReadError};
 use der_parser::der::{
     Header, Tag, parse_der_i32, parse_der_integer, parse_der_sequence_of_v,
     parse_der_tagged_explicit_g, parse_der_u32,
@@ -100,7 +100,7 @@ fn number_inside<'a>(content: &'a [u8], _header: Header<'a>) -> IResult<&'a [u8]
 }
 
 /// `Cursor`: the serial number of a certificate. An error has its offset.
-pub fn read_serial_number(certificate: &[u8]) -> Result<u64, Refusal<BerError>>
+pub fn read_serial_number(certificate: &[u8]) -> Result<u64, ReadError<BerError>>
     ensures { ReadsWhole (Begins (Required CertificateNumber) certificate.now) (λ n. (pos n, tt)) Never result }
 {
     let mut fields = Cursor::new(certificate).open_sequence()?.open_sequence()?;

@@ -1,30 +1,23 @@
 -- Fields that are put one after another, and inside one another.
-use Rattle.std.proofs.Common.{◌≡◌, ◌≢◌, ℕ, ◌⊎◌, inl, inr, All, ◌+◌, ◌-◌, ◌^◌, ◌<◌, ◌≤◌, Bool, true, false, Option, Some, None, List, [], ◌++◌, length, take, drop, get_or, min, refl, ap, sym, subst, ◌∙◌, arith, append_assoc, length-append, Result}
+use Rattle.std.proofs.Common.{◌≡◌, ◌≢◌, ℕ, ◌⊎◌, inl, inr, All, ◌+◌, ◌-◌, ◌^◌, ◌<◌, ◌≤◌, ◌==◌, Bool, true, false, Option, Some, None, if◌then◌else◌, List, [], ◌++◌, length, take, drop, get_or, min, refl, ap, sym, subst, ◌∙◌, arith, append_assoc, length-append, Result}
 use Rattle.std.specs.Borrow.{MutBor}
 use Rattle.std.specs.Prelude.{Ok, Err}
-use Rattle.std.proofs.Math.Seq.{drop-drop}
 use Rattle.std.proofs.lemmas.List.{take-append-drop}
 use Rattle.der_base.specs.declared.header.Class.{Class}
-use Rattle.der_base.specs.declared.header.Class.TheVariants.{Universal}
+use Rattle.der_base.specs.declared.header.Class.TheVariants.{Universal, Application, ContextSpecific, Private}
 use Rattle.der_base.specs.declared.header.Tag.{Tag}
 use Rattle.der_writer.specs.declared.writer.Mark.{Mark}
 use Rattle.der_writer.specs.declared.writer.WriteError.{WriteError}
 use Rattle.der_writer.specs.declared.writer.WriteError.TheVariants.{NoRoom, NotClosed}
 use Rattle.der_writer.specs.declared.writer.Writer.{Writer}
 use Rattle.der_base.specs.Encoding.{element}
-use Rattle.der_base.specs.Octets.{identifier, shortest_length}
+use Rattle.der_base.specs.Octets.{class_number, identifier, shortest_length}
 use Rattle.std.specs.List.{concat, flat_map}
 use Rattle.std.proofs.lemmas.Grind.{common_steps}
+use Rattle.der_writer.proofs.Counts.{further}
 use Rattle.der_writer.specs.Fields.{primitive, constructed, BitString}
 use Rattle.der_writer.specs.SetsOf.{IsElement, IsInOrder, ClosesSetOf}
-use Rattle.der_writer.specs.Written.{HasWritten, IsClosed, IsInnermost, StartsAt, KeepsBuffer, Puts, Opens, OpensBits, EndsContent, Closes, IsTagged, Returns, Finishes, Wrote, PutsOptional, PutsUnless, if_some, class_put, number_put, leaf, reserved}
-
--- what stays behind a place stays behind a further one
-further : (m n : ℕ) (x y : List ℕ) → m ≤ n → drop m x ≡ drop m y → drop n x ≡ drop n y
-further m n x y h e =
-    let k : m + (n - m) ≡ n = omega arith in
-    let P : ℕ → Type 0 = λ j. drop j x ≡ drop j y in
-    subst P k (sym (drop-drop (n - m) m x) ∙ ap (drop (n - m)) e ∙ drop-drop (n - m) m y)
+use Rattle.der_writer.specs.Written.{HasWritten, IsClosed, IsPlain, IsInnermost, StartsAt, KeepsBuffer, Puts, Opens, OpensBits, EndsContent, Closes, IsTagged, Returns, Finishes, Wrote, PutsOptional, PutsUnless, if_some, class_from, class_put, number_put, leaf, reserved}
 
 pub keeps_both : (a b c : Writer) → KeepsBuffer a b → KeepsBuffer b c → KeepsBuffer a c
 keeps_both a b c h k = record {
@@ -52,7 +45,7 @@ opens_put k p t n start a b o put octets sized least at = record {
 }
 
 -- a mark that isn't the innermost one
-pub closes_none : (m : Mark) (a : Writer) → ¬ IsInnermost m a → Closes m a (record a { implicit = None })
+pub closes_none : (m : Mark) (a : Writer) → ¬ IsInnermost m a → Closes m a (record a { implicit = record { class = 0; number = a.implicit.number } })
 closes_none m a other = record {
   keeps = record { same = refl; size = refl; behind = refl; grows = omega arith };
   plain = refl;
@@ -62,10 +55,10 @@ closes_none m a other = record {
 }
 
 -- the innermost one
-pub closes_ended : (m : Mark) (a b : Writer) → IsInnermost m a → EndsContent m.start (record a { implicit = None; innermost = m.outer }) b → Closes m a b
+pub closes_ended : (m : Mark) (a b : Writer) → IsInnermost m a → EndsContent m.start (record a { implicit = record { class = 0; number = a.implicit.number }; innermost = m.outer }) b → Closes m a b
 closes_ended m a b inner h = record {
   keeps = h.keeps;
-  plain = h.tag;
+  plain = ap (λ i. i.class) h.tag;
   closed = λ e. h.level;
   stays = λ other. absurd (other inner);
   written = λ before content e after held. h.written before content after held;
@@ -133,17 +126,25 @@ leaf_within {a = a} {d = d} t k w class number o h l =
     subst P class (subst Q number (wrapped_in k.0 false k.1.0 w l h o))
 
 -- a field without an implicit tag
-pub puts_plain : {a b : Writer} (t : ℕ) (x : List ℕ) → Puts (leaf a.implicit t x) a b → a.implicit ≡ None → Puts (primitive Universal t x) a b
+pub puts_plain : {a b : Writer} (t : ℕ) (x : List ℕ) → Puts (leaf a.implicit t x) a b → IsPlain a → Puts (primitive Universal t x) a b
 unfolding leaf primitive
 puts_plain {a = a} {b = b} t x h e =
-    let P : Option (Class × Tag) → Type 0 = λ i. Puts (leaf i t x) a b in subst P e h
+    let P : ℕ → Type 0 = λ n. Puts (element (class_from n) false (if n == 0 then t else a.implicit.number) x) a b in subst P e h
+
+-- the element of an implicit tag
+tagged_leaf : (c : Class) (n t : ℕ) (x : List ℕ) → leaf (record { class = class_number c + 1; number = n }) t x ≡ primitive c n x
+unfolding leaf primitive
+tagged_leaf Universal n t x = refl
+tagged_leaf Application n t x = refl
+tagged_leaf ContextSpecific n t x = refl
+tagged_leaf Private n t x = refl
 
 -- a field with one
 pub puts_tagged : {a m b : Writer} {c : Class} {n : ℕ} (t : ℕ) (x : List ℕ) → Puts (leaf m.implicit t x) m b → IsTagged c n a m → Puts (primitive c n x) a b
 unfolding leaf primitive
 puts_tagged {a = a} {m = m} {b = b} {c = c} {n = n} t x h e =
     let P : Writer → Type 0 = λ s. Puts (leaf s.implicit t x) s b in
-    let k : Puts (leaf (Some (c, record { 0 = n })) t x) (record a { implicit = Some (c, record { 0 = n }) }) b = subst P e h in
+    let k = puts_same (tagged_leaf c n t x) (subst P e.tagged h) in
     record { keeps = k.keeps; plain = k.plain; level = k.level; written = k.written }
 
 -- The steps of a proof that follows the calls: the first field behind a mark, a field after others, an element of
@@ -191,12 +192,12 @@ pub puts_back : (e : List ℕ) (a x y : Writer) → x ≡ y → Puts e a y → P
 puts_back e a x y same h = let P : Writer → Type 0 = λ s. Puts e a s in subst P (sym same) h
 
 -- A field that may be absent, and one with a default: with the octets of the value, or none.
-pub optional_put : {V : Type 0} {a b : Writer} (t : ℕ) (x : V → List ℕ) (v : Option V) → PutsOptional t x v a b → a.implicit ≡ None
+pub optional_put : {V : Type 0} {a b : Writer} (t : ℕ) (x : V → List ℕ) (v : Option V) → PutsOptional t x v a b → IsPlain a
     → Puts (if_some (λ y. primitive Universal t (x y)) v) a b
 optional_put t x None h e = h
 optional_put t x (Some v) h e = puts_plain t (x v) h e
 
-pub unless_put : {V : Type 0} {a b : Writer} {d v : V} (t : ℕ) (x : V → List ℕ) → (v ≡ d) ⊎ (v ≢ d) → PutsUnless d t x v a b → a.implicit ≡ None
+pub unless_put : {V : Type 0} {a b : Writer} {d v : V} (t : ℕ) (x : V → List ℕ) → (v ≡ d) ⊎ (v ≢ d) → PutsUnless d t x v a b → IsPlain a
     → (e : List ℕ) × Puts e a b × (((v ≡ d) × (e ≡ [])) ⊎ ((v ≢ d) × (e ≡ primitive Universal t (x v))))
 unless_put t x (inl same) h e = ([], h.same same, inl (same, refl))
 unless_put {v = v} t x (inr other) h e = (primitive Universal t (x v), puts_plain t (x v) (h.other other) e, inr (other, refl))

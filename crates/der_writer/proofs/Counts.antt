@@ -1,5 +1,6 @@
 -- Counts that stop, and what a buffer holds where it has room.
 use Rattle.std.proofs.Common.{◌≡◌, ℕ, ◌+◌, ◌-◌, ◌^◌, ◌<◌, ◌≤◌, List, [], ◌∷◌, ◌++◌, length, drop, take, min, refl, ⊎_elim, sym, ap, subst, ◌∙◌, arith, append_assoc, length-append}
+use Rattle.std.proofs.Math.Seq.{drop-drop}
 use Rattle.std.proofs.lemmas.Bool.{cases_lt}
 use Rattle.std.proofs.lemmas.List.{take_at, drop_at, take-take, drop-take}
 use Rattle.der_base.specs.Octets.{shortest_length}
@@ -8,6 +9,13 @@ use Rattle.der_writer.specs.Written.{IsCount, IsPlain, HasWritten, Puts, EndsCon
 use Rattle.der_base.proofs.Octets.Shortest.{length_short}
 use Rattle.der_writer.proofs.Headers.{length_some}
 use Rattle.der_writer.proofs.Moves.{headed}
+
+-- what stays behind a place stays behind a further one
+pub further : (m n : ℕ) (x y : List ℕ) → m ≤ n → drop m x ≡ drop m y → drop n x ≡ drop n y
+further m n x y h e =
+    let k : m + (n - m) ≡ n = omega arith in
+    let P : ℕ → Type 0 = λ j. drop j x ≡ drop j y in
+    subst P k (sym (drop-drop (n - m) m x) ∙ ap (drop (n - m)) e ∙ drop-drop (n - m) m y)
 
 -- octets after those that were written
 pub puts_filled : (old new : Writer) (e : List ℕ) (size : ℕ) → new.out.ghost_name ≡ old.out.ghost_name → IsPlain new → new.innermost ≡ old.innermost
@@ -30,6 +38,16 @@ puts_filled old new e size same plain level few sized counted fills = record {
           let all : take (length (w ++ e)) new.out.now ≡ take (length w) old.out.now ++ e = rw (← n', ← n) (fills.filled (omega (arith, fills.size))) in
           all ∙ ap (λ l. l ++ e) before;
     }
+
+-- octets, and others behind them
+pub fills_both : (old mid new : List ℕ) (begin i end : ℕ) (v w : List ℕ) → i ≤ end → end ≤ length old → FillsTo i old mid begin v → FillsTo end mid new i w
+    → FillsTo end old new begin (v ++ w)
+fills_both old mid new begin i end v w up within h k = record {
+  small = h.small;
+  size = k.size ∙ h.size;
+  filled = λ room. k.filled (omega (arith, within, h.size)) ∙ ap (λ l. l ++ w) (h.filled (omega (arith, up, within))) ∙ append_assoc (take begin old) v w;
+  behind = k.behind ∙ further i end mid old up h.behind;
+}
 
 -- the octets of what is open, apart
 opened : (b n : ℕ) (l before content hdr : List ℕ) → b ≡ length before → n ≡ length content → take (b + 1 + n) l ≡ before ++ reserved ++ content

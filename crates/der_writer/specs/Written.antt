@@ -1,18 +1,19 @@
 -- What a writer has written.
 use Rattle.std.specs.Borrow.{MutBor}
-use Rattle.std.specs.Prelude.{◌≡◌, ◌≢◌, ℕ, ◌-◌, ◌%◌, ◌^◌, ◌<◌, ◌≤◌, Bool, false, Option, Some, None, min, take, drop}
+use Rattle.std.specs.Prelude.{◌≡◌, ◌≢◌, ℕ, ◌+◌, ◌-◌, ◌%◌, ◌^◌, ◌<◌, ◌≤◌, ◌==◌, nat_le, if◌then◌else◌}
+use Rattle.std.specs.Prelude.{Bool, false, Option, Some, None, min, take, drop}
 use Rattle.std.specs.Prelude.{List, [], ◌∷◌, ◌++◌, length, Result, Ok, Err, IsOk, MatchResult}
 use Rattle.der_base.specs.declared.error.Error.{Error as BerError}
 use Rattle.der_base.specs.declared.error.OidParseError.{OidParseError}
 use Rattle.der_base.specs.declared.header.Class.{Class}
-use Rattle.der_base.specs.declared.header.Class.TheVariants.{Universal}
-use Rattle.der_base.specs.declared.header.Tag.{Tag}
+use Rattle.der_base.specs.declared.header.Class.TheVariants.{Universal, Application, ContextSpecific, Private}
 use Rattle.der_base.specs.Encoding.{element}
-use Rattle.der_base.specs.Octets.{identifier, shortest_length}
+use Rattle.der_base.specs.Octets.{class_number, identifier, shortest_length}
 use Rattle.der_base.specs.Refusal.{refusal, invalid_charset}
 use Rattle.der_base.specs.Text.{IsTextOf, IsUtf16}
 use Rattle.der_values.specs.declared.identifier.ObjectIdentifier.{ObjectIdentifier}
 use Rattle.der_writer.specs.Octets.{identifier_octets, identifier_type}
+use Rattle.der_writer.specs.declared.writer.NextTag.{NextTag}
 use Rattle.der_writer.specs.declared.writer.Writer.{Writer}
 use Rattle.der_writer.specs.declared.writer.Mark.{Mark}
 use Rattle.der_writer.specs.declared.writer.WriteError.{WriteError}
@@ -35,7 +36,7 @@ HasWritten w s = Holds w s.count s.out.now
 
 -- no implicit tag is left over
 abbrev pub IsPlain : Writer → Type 0
-IsPlain s = s.implicit ≡ None
+IsPlain s = s.implicit.class ≡ 0
 
 -- no element is open
 abbrev pub IsClosed : Writer → Type 0
@@ -76,17 +77,20 @@ pub record Puts (e : List ℕ) (old new : Writer) : Type 0 where
   pub level : new.innermost ≡ old.innermost
   pub written : (w : List ℕ) → HasWritten w old → HasWritten (w ++ e) new
 
--- the class and the number of the next element: its type's, or those of an implicit tag (X.690 8.14.3)
-abbrev pub class_put : Option (Class × Tag) → Class
-class_put None = Universal
-class_put (Some k) = k.0
+-- the class with this number, counted from 1; any number above 4 is that of the last
+abbrev pub class_from : ℕ → Class
+class_from n = if nat_le n 1 then Universal else if n == 2 then Application else if n == 3 then ContextSpecific
+    else Private
 
-abbrev pub number_put : Option (Class × Tag) → ℕ → ℕ
-number_put None t = t
-number_put (Some k) t = k.1.0
+-- the class and the number of the next element: its type's, or those of an implicit tag (X.690 8.14.3)
+abbrev pub class_put : NextTag → Class
+class_put i = class_from i.class
+
+abbrev pub number_put : NextTag → ℕ → ℕ
+number_put i t = if i.class == 0 then t else i.number
 
 -- a primitive element of universal type t, or of the implicit tag that it has
-unfoldable pub leaf : Option (Class × Tag) → ℕ → List ℕ → List ℕ
+unfoldable pub leaf : NextTag → ℕ → List ℕ → List ℕ
 leaf i t x = element (class_put i) false (number_put i t) x
 
 -- it is put with these content octets
@@ -147,8 +151,8 @@ PutsArcs (Err refusal) old (Err e) new = (e ≡ refusal) × (new ≡ old)
 PutsArcs _ old _ new = ⊥
 
 -- the same writer, before an element under this implicit tag
-abbrev pub IsTagged : Class → ℕ → Writer → Writer → Type 0
-IsTagged c n old new = new ≡ record old { implicit = Some (c, record { 0 = n }) }
+pub record IsTagged (c : Class) (n : ℕ) (old new : Writer) : Type 0 where
+  pub tagged : new ≡ record old { implicit = record { class = class_number c + 1; number = n } }
 
 -- the room for a length of one octet
 abbrev pub reserved : List ℕ

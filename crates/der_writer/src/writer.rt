@@ -2,10 +2,11 @@
 ghost use Rattle.std.specs.Prelude.{◌≡◌, ◌+◌, ◌<◌, ◌≤◌, ◌++◌, ◌↔◌, [], ◌∷◌, IsTrue, drop, false, length, take, true};
 ghost use Rattle.der_base.specs.declared.header.Class.{Class};
 ghost use Rattle.der_base.specs.Encoding.{element};
-ghost use Rattle.der_base.specs.Octets.{identifier, shortest_length};
+ghost use Rattle.der_base.specs.Octets.{class_number, identifier, shortest_length};
 ghost use Rattle.der_writer.specs.SetsOf.{ClosesSetOf};
 ghost use Rattle.der_writer.specs.Written.{Closes, EndsContent, FillsTo, Finishes, IsPlain, IsTagged, Opens, OpensBits};
-ghost use Rattle.der_writer.specs.Written.{Puts, PutsLeaf, Resumes, StartsAt, class_put, number_put, reserved};
+ghost use Rattle.der_writer.specs.Written.{Puts, PutsLeaf, Resumes, Returns, StartsAt, class_from, class_put, number_put};
+ghost use Rattle.der_writer.specs.Written.{reserved};
 
 use crate::element::{
     LONG_LENGTH, LONG_TAG, fill_length, header_size, identifier_octet, identifier_octets,
@@ -25,6 +26,9 @@ use der_values::octets::header::{identifier_octet_count, length_octet_count};
 /// fields.close(algorithm);
 /// let size = fields.finish()?;
 /// ```
+///
+/// C sees its fields in this order.
+#[repr(C)]
 #[derive(Drop)]
 pub struct Writer<'b> {
     out: &'b mut [u8],
@@ -32,11 +36,20 @@ pub struct Writer<'b> {
     count: usize,
     // Where the length of the innermost open element stands. 0 if no element is open.
     innermost: usize,
-    // The implicit tag that the next element has.
-    pub(crate) implicit: Option<(Class, Tag)>,
+    pub(crate) implicit: NextTag,
+}
+
+/// The implicit tag of the next element, if it has one, in numbers of C.
+#[repr(C)]
+#[derive(Clone, Copy)]
+pub(crate) struct NextTag {
+    // The class, from 1 to 4. 0 if there is none.
+    class: u32,
+    number: u32,
 }
 
 /// An element that is open, which `close` closes. A mark of the same numbers is the same mark.
+#[repr(C)]
 #[derive(Drop)]
 pub struct Mark {
     /// Where its length stands.
@@ -73,7 +86,10 @@ impl<'b> Writer<'b> {
             out,
             count,
             innermost,
-            implicit: None,
+            implicit: NextTag {
+                class: 0,
+                number: 0,
+            },
         }
     }
 
@@ -105,7 +121,10 @@ impl<'b> Writer<'b> {
         ensures same { result.ghost_name ≡ self.entry.ghost_name }
         ensures tagged { IsTagged class number self.old result.now }
     {
-        self.implicit = Some((class, Tag(number)));
+        self.implicit = NextTag {
+            class: class_from_one(class),
+            number,
+        };
         self
     }
 
@@ -114,7 +133,7 @@ impl<'b> Writer<'b> {
     pub fn put_elements(&mut self, octets: &[u8])
         ensures { Puts octets.now self.old self.new }
     {
-        self.implicit = None;
+        self.implicit.class = 0;
         let end = self.count.saturating_add(octets.len());
         fill(self.out, self.count, end, octets);
         self.count = end;
@@ -126,11 +145,22 @@ impl<'b> Writer<'b> {
         ensures { PutsLeaf tag.0 octets.now self.old self.new }
     {
         if self.has_short_header(tag, octets.len()) {
-            self.put_elements(&[tag.0 as u8, octets.len() as u8]);
-            self.put_elements(octets);
+            self.put_short(tag.0 as u8, octets);
         } else {
             self.put_tagged(tag, octets);
         }
+    }
+
+    /// Puts an identifier octet, a length of one octet, and the content.
+    #[inline]
+    fn put_short(&mut self, identifier: u8, octets: &[u8])
+        requires { length octets.now < 128 }
+        ensures { Puts (identifier ∷ length octets.now ∷ octets.now) self.old self.new }
+    {
+        self.implicit.class = 0;
+        let end = self.count.saturating_add(octets.len() + 2);
+        fill_short(self.out, self.count, end, identifier, octets);
+        self.count = end;
     }
 
     /// Whether a primitive element of a universal type has a header of two octets: it has no implicit tag.
@@ -138,7 +168,7 @@ impl<'b> Writer<'b> {
     fn has_short_header(&self, tag: Tag, content_size: usize) -> bool
         ensures { IsTrue result ↔ (IsPlain self.now × (tag.0 < 31) × (content_size < 128)) }
     {
-        self.implicit.is_none() && tag.0 < LONG_TAG && content_size < LONG_LENGTH
+        self.implicit.class == 0 && tag.0 < LONG_TAG && content_size < LONG_LENGTH
     }
 
     /// Puts a primitive element of any tag and size.
@@ -148,9 +178,7 @@ impl<'b> Writer<'b> {
     {
         let (class, number) = tag_put(self.implicit, tag);
         if number.0 < LONG_TAG && octets.len() < LONG_LENGTH {
-            let identifier = identifier_octet(class, false, number);
-            self.put_elements(&[identifier, octets.len() as u8]);
-            self.put_elements(octets);
+            self.put_short(identifier_octet(class, false, number), octets);
         } else {
             self.put_long(tag, octets);
         }
@@ -162,7 +190,7 @@ impl<'b> Writer<'b> {
         ensures { PutsLeaf tag.0 octets.now self.old self.new }
     {
         let (class, tag) = tag_put(self.implicit, tag);
-        self.implicit = None;
+        self.implicit.class = 0;
         let size = octets.len().saturating_add(header_size(tag, octets.len()));
         let end = self.count.saturating_add(size);
         put_between(self.out, self.count, end, class, tag, octets);
@@ -284,7 +312,7 @@ impl<'b> Writer<'b> {
     pub fn close(&mut self, mark: Mark)
         ensures { Closes mark self.old self.new }
     {
-        self.implicit = None;
+        self.implicit.class = 0;
         if mark.start != self.innermost {
             return;
         }
@@ -337,6 +365,13 @@ impl<'b> Writer<'b> {
     pub fn finish(self) -> Result<usize, WriteError>
         ensures { Finishes self.entry self.exit.0.now result }
     {
+        self.finished()
+    }
+
+    /// The same of a writer that goes on.
+    pub fn finished(&self) -> Result<usize, WriteError>
+        ensures { Returns self.now result }
+    {
         if self.innermost != 0 {
             Err(WriteError::NotClosed)
         } else if self.count <= self.out.len() {
@@ -354,8 +389,31 @@ fn fill(out: &mut [u8], begin: usize, end: usize, octets: &[u8])
     ensures { FillsTo end out.old out.new begin octets.now }
 {
     if end <= out.len() {
-        out[begin..end].copy_from_slice(octets);
+        copy(out, begin, end, octets);
     }
+}
+
+/// Writes an identifier octet, a length of one octet, and the content, if the buffer has room.
+#[inline]
+fn fill_short(out: &mut [u8], begin: usize, end: usize, identifier: u8, octets: &[u8])
+    requires small { length octets.now < 128 }
+    requires within { end ≤ length out.old → begin + 2 + length octets.now ≡ end }
+    ensures { FillsTo end out.old out.new begin (identifier ∷ length octets.now ∷ octets.now) }
+{
+    if end <= out.len() {
+        copy(out, begin, begin + 2, &[identifier, octets.len() as u8]);
+        copy(out, begin + 2, end, octets);
+    }
+}
+
+/// Writes octets between two offsets.
+#[inline]
+fn copy(out: &mut [u8], begin: usize, end: usize, octets: &[u8])
+    requires between { begin + length octets.now ≡ end }
+    requires within { end ≤ length out.old }
+    ensures { FillsTo end out.old out.new begin octets.now }
+{
+    out[begin..end].copy_from_slice(octets);
 }
 
 /// Writes a primitive element between two offsets, if the buffer has room.
@@ -369,13 +427,37 @@ fn put_between(out: &mut [u8], begin: usize, end: usize, class: Class, tag: Tag,
 }
 
 /// The tag of the next element: that of its type, or an implicit one.
-pub(crate) fn tag_put(implicit: Option<(Class, Tag)>, tag: Tag) -> (Class, Tag)
+pub(crate) fn tag_put(implicit: NextTag, tag: Tag) -> (Class, Tag)
     ensures class { result.0 ≡ class_put implicit }
     ensures number { result.1.0 ≡ number_put implicit tag.0 }
 {
-    match implicit {
-        Some(implicit) => implicit,
-        None => (Class::Universal, tag),
+    match implicit.class {
+        0 => (Class::Universal, tag),
+        class => (class_of(class), Tag(implicit.number)),
+    }
+}
+
+/// The class with this number, from 1 on. Any number above 4 is that of the last one.
+fn class_of(number: u32) -> Class
+    ensures { result ≡ class_from number }
+{
+    match number {
+        0 | 1 => Class::Universal,
+        2 => Class::Application,
+        3 => Class::ContextSpecific,
+        _ => Class::Private,
+    }
+}
+
+/// The number of a class, from 1 on.
+fn class_from_one(class: Class) -> u32
+    ensures { result ≡ class_number class + 1 }
+{
+    match class {
+        Class::Universal => 1,
+        Class::Application => 2,
+        Class::ContextSpecific => 3,
+        Class::Private => 4,
     }
 }
 

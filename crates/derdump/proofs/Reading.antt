@@ -9,7 +9,7 @@ use Rattle.der_parser.specs.Readings.{Answer}
 use Rattle.der_parser.specs.Tree.{Node}
 use Rattle.der_parser.specs.declared.ber.BerObject.{BerObject}
 use Rattle.der_parser.specs.declared.error.Err.TheVariants.{OutOfMemory}
-use Rattle.der_parser.specs.declared.cursor.Refusal.{Refusal}
+use Rattle.der_parser.specs.declared.cursor.ReadError.{ReadError}
 use Rattle.der_parser.specs.declared.error.Error.{Error as BerError}
 use Rattle.der_parser.specs.declared.Rules.{Rules}
 use Rattle.der_parser.specs.declared.Rules.TheVariants.{Ber, Der}
@@ -48,7 +48,7 @@ at_first f some (os, none) = absurd (omega (arith, some))
 at_first f some (os, one_more {after = after} {o = o} b bs) = f o after b
 
 -- a reader that answers no object refuses the element that begins there, or finds no memory for it
-pub refused_here : {rules : Rules} {i rest : List ℕ} {os : List Node} (r : Refusal BerError) → Elements rules i os rest → r.offset + length rest ≡ length i
+pub refused_here : {rules : Rules} {i rest : List ℕ} {os : List Node} (r : ReadError BerError) → Elements rules i os rest → r.offset + length rest ≡ length i
     → 0 < length rest → (AreElements rules i → AreElements rules rest) → AnswersElement rules rest (Err r.reason) → IsRefused rules i os r
 refused_here {rules} {i} {rest} {os} r front place some whole a =
     let begins : (o : Node) (after : List ℕ) → BeginsWith rules rest o after → WantsMemory r =

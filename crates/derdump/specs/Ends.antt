@@ -4,7 +4,7 @@ use Rattle.std.specs.Io.KnownBytes.{IsAtEnd}
 use Rattle.der_parser.specs.Tree.{Node}
 use Rattle.derdump.specs.declared.fault.Fault.{Fault}
 use Rattle.derdump.specs.declared.fault.Fault.TheVariants.{Usage, Input, Element, Write, OutOfMemory}
-use Rattle.der_parser.specs.declared.cursor.Refusal.{Refusal}
+use Rattle.der_parser.specs.declared.cursor.ReadError.{ReadError}
 use Rattle.der_parser.specs.declared.error.Error.{Error as BerError}
 use Rattle.derdump.specs.declared.command.Command.{Command}
 use Rattle.der_parser.specs.declared.Rules.{Rules}
@@ -23,12 +23,12 @@ abbrev pub IsHandedOn : {W : Type 0} → Sink W → Type 0
 IsHandedOn out = (has_failed out ≡ false) × (is_flushed out ≡ true)
 
 -- i is elements up to its end, or up to one that is refused
-abbrev pub EndsAt : Rules → List ℕ → List Node → Option (Refusal BerError) → Type 0
+abbrev pub EndsAt : Rules → List ℕ → List Node → Option (ReadError BerError) → Type 0
 EndsAt rules i os None = Elements rules i os []
 EndsAt rules i os (Some r) = IsRefused rules i os r
 
 -- the output of each element of i was written, up to its end or up to one that is refused
-abbrev pub Printed : Command → List ℕ → Option (List ℕ) → Option (List ℕ) → Option (Refusal BerError) → Type 0
+abbrev pub Printed : Command → List ℕ → Option (List ℕ) → Option (List ℕ) → Option (ReadError BerError) → Type 0
 Printed command i old new r = (os : List Node) × EndsAt (rules_of command) i os r × TookOutputs command old new os
 
 -- How printing ends: all is printed and handed on; or an element is refused, and what stands before it is printed and

@@ -1,5 +1,5 @@
 //! Faults that end the program, and the texts that report them.
-use der_parser::cursor::Refusal;
+use der_parser::cursor::ReadError;
 use der_parser::error::BerError;
 
 /// Why the program ends before its input does.
@@ -13,7 +13,7 @@ pub enum Fault {
     Input(InputFault),
     /// An element is refused, or there was no memory for it.
     #[error("error at {}: {}", .0.offset, .0.reason)]
-    Element(Refusal<BerError>),
+    Element(ReadError<BerError>),
     /// A write or a flush failed.
     #[error("error: write failed")]
     Write,

@@ -17,7 +17,7 @@ use crate::rules::read_object;
 use crate::sink::Sink;
 use crate::source::Source;
 use der_parser::ber::{BerObject, FaultWriter, PrettyBer};
-use der_parser::cursor::Refusal;
+use der_parser::cursor::ReadError;
 use der_parser::error::{BerError, Err as Refused};
 use std::alloc::{AllocError, Global};
 use std::io::{Read, Write};
@@ -118,7 +118,7 @@ fn print_elements<W: Write>(
     command: Command,
     input: &[u8],
     out: &mut Sink<W>,
-) -> io::Result<Option<Refusal<BerError>>>
+) -> io::Result<Option<ReadError<BerError>>>
     ensures printed { IfOk result
         (Printed command input.now (octets_of W.contents out.old) (octets_of W.contents out.new)) }
     ensures flushed { OnOk result (is_flushed out.new ≡ true) }
@@ -137,7 +137,7 @@ fn print_elements<W: Write>(
                         hand_on(out, &pending)?;
                         let offset = input.len() - rest.len();
                         let reason = Refused::OutOfMemory;
-                        return Ok(Some(Refusal {
+                        return Ok(Some(ReadError {
                             offset,
                             list_end: None,
                             reason,
@@ -148,7 +148,7 @@ fn print_elements<W: Write>(
             Err(reason) => {
                 hand_on(out, &pending)?;
                 let offset = input.len() - rest.len();
-                return Ok(Some(Refusal {
+                return Ok(Some(ReadError {
                     offset,
                     list_end: None,
                     reason,

@@ -8,7 +8,7 @@ ghost use Rattle.c_values.specs.Writers.{class_of, is_set};
 ghost use Rattle.der_base.specs.declared.error.Error.{Error as BerError};
 ghost use Rattle.der_base.specs.declared.rules.Rules.{Rules};
 ghost use Rattle.der_base.specs.Numbers.{signed, unsigned};
-ghost use Rattle.der_cursor.specs.declared.refusal.Refusal.{Refusal};
+ghost use Rattle.der_cursor.specs.declared.error.ReadError.{ReadError};
 ghost use Rattle.der_cursor.specs.declared.cursor.Cursor.{Cursor};
 ghost use Rattle.der_cursor.specs.Cursors.{EndsAt, OpensAt, OpensType, ReadsAnyAt, ReadsValue};
 ghost use Rattle.der_cursor.specs.Elements.{IsNext};
@@ -31,7 +31,7 @@ use c_values::state::class_of;
 use c_values::time::DmTime;
 use der_base::error::BerError;
 use der_base::header::Tag;
-use der_cursor::{Cursor, Refusal};
+use der_cursor::{Cursor, ReadError};
 
 /// Reads a BOOLEAN (X.690 8.2, 11.1) as 0 or 1.
 #[unsafe(no_mangle)]
@@ -316,7 +316,7 @@ pub extern "C" fn dm_is_next(cursor: &DmCursor<'_>, tag_class: u8, number: u32) 
 /// Ends a list. Octets left over are an error.
 #[unsafe(no_mangle)]
 pub extern "C" fn dm_end(cursor: &DmCursor<'_>, fault: &mut DmFault) -> u32
-    ensures exactly { (c : Cursor) × (found : Result (Unit {0}) (Refusal BerError)) × Continues cursor.now c
+    ensures exactly { (c : Cursor) × (found : Result (Unit {0}) (ReadError BerError)) × Continues cursor.now c
         × EndsAt c found × (fault.new ≡ end_fault cursor.now found) }
     ensures status { result ≡ fault.new.status }
 {

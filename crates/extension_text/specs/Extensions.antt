@@ -5,7 +5,7 @@ use Rattle.std.specs.Prelude.{Ok, Err}
 use Rattle.der_base.specs.declared.error.Error.{Error as BerError}
 use Rattle.der_base.specs.declared.rules.Rules.TheVariants.{Der}
 use Rattle.der_base.specs.Pretty.{boolean_text}
-use Rattle.der_cursor.specs.declared.refusal.Refusal.{Refusal}
+use Rattle.der_cursor.specs.declared.error.ReadError.{ReadError}
 use Rattle.der_cursor.specs.Formats.{ObjectIdentifier, Required}
 use Rattle.der_extensions.specs.declared.basic_constraints.BasicConstraints.{BasicConstraints}
 use Rattle.der_extensions.specs.declared.value.ExtensionValue.{ExtensionValue}
@@ -124,12 +124,12 @@ IsValue w (value.OrganizationIdentifier x) = Exactly (organization_text (organiz
 IsValue w x = Exactly (octets_line (codes "      Octets: ") w)
 
 -- the value as the type that the identifier names, or that it isn't of this type
-abbrev pub IsResult : List ℕ → Result ExtensionValue (Refusal BerError) → List ℕ → Type 0
+abbrev pub IsResult : List ℕ → Result ExtensionValue (ReadError BerError) → List ℕ → Type 0
 IsResult w (Ok x) = IsValue w x
 IsResult w (Err e) = IsUnread (codes "      ") w e
 
 abbrev pub IsRead : Extension → List ℕ → Type 0
-IsRead e text = (r : Result ExtensionValue (Refusal BerError)) × ReadsExtension e r × IsResult e.value.now r text
+IsRead e text = (r : Result ExtensionValue (ReadError BerError)) × ReadsExtension e r × IsResult e.value.now r text
 
 abbrev pub critical_text : Bool → List ℕ
 critical_text true = codes ", critical"

@@ -3,7 +3,7 @@ use Rattle.std.specs.Prelude.{◌≡◌, ℕ, ◌<◌, ◌≤◌, ◌⊎◌, tru
 use Rattle.der_base.specs.declared.error.Error.{Error as BerError}
 use Rattle.der_base.specs.declared.header.Class.TheVariants.{ContextSpecific, Universal}
 use Rattle.der_base.specs.declared.rules.Rules.TheVariants.{Der}
-use Rattle.der_cursor.specs.declared.refusal.Refusal.{Refusal}
+use Rattle.der_cursor.specs.declared.error.ReadError.{ReadError}
 use Rattle.der_cursor.specs.Elements.{Element}
 use Rattle.der_cursor.specs.Formats.{AnyElement}
 use Rattle.der_extensions.specs.Lists.{BeginsWithNone}
@@ -57,18 +57,18 @@ pub data IsWhyWrong (w : List ℕ) (e : Element) (why : Why) : Type 0 where
   another_type : ¬ IsSequence w → ¬ IsBitString w → why ≡ AsRead → IsWhyWrong w e why
 
 -- what can be said of an error by which this element is refused, if there is one
-abbrev pub IsWhyOf : List ℕ → Refusal BerError → Option Element → Why → Type 0
+abbrev pub IsWhyOf : List ℕ → ReadError BerError → Option Element → Why → Type 0
 IsWhyOf w r (Some e) why = (wrong : Why) × IsWhyWrong w e wrong × (why ≡ why_of r (Some (type_of e)) wrong)
 IsWhyOf w r None why = why ≡ why_of r None AsRead
 
 -- what can be said of the error of a value
-abbrev pub IsWhyIn : List ℕ → Refusal BerError → Why → Type 0
+abbrev pub IsWhyIn : List ℕ → ReadError BerError → Why → Type 0
 IsWhyIn w r why = (e : Option Element) × FindsElement (drop r.offset w) e × IsWhyOf w r e why
 
 -- the error, and the octets of the value, so far in
-abbrev pub IsUnreadBy : List ℕ → List ℕ → Refusal BerError → Why → List ℕ → Type 0
+abbrev pub IsUnreadBy : List ℕ → List ℕ → ReadError BerError → Why → List ℕ → Type 0
 IsUnreadBy indent w r why = Exactly indent ⨾ (IsLineOf (codes "Error in the value ") (error_text r why)
     ⨾ (Exactly indent ⨾ Exactly (octets_line (codes "Octets: ") w)))
 
-abbrev pub IsUnread : List ℕ → List ℕ → Refusal BerError → List ℕ → Type 0
+abbrev pub IsUnread : List ℕ → List ℕ → ReadError BerError → List ℕ → Type 0
 IsUnread indent w r text = (why : Why) × IsWhyIn w r why × IsUnreadBy indent w r why text

@@ -4,7 +4,7 @@ use Rattle.der_base.specs.declared.error.Err.{Err as Reason}
 use Rattle.der_base.specs.declared.error.Err.TheVariants.{Error}
 use Rattle.der_base.specs.declared.error.Error.{Error as BerError}
 use Rattle.der_base.specs.declared.error.Error.TheVariants.{BerValueError, UnexpectedClass, UnexpectedTag}
-use Rattle.der_cursor.specs.declared.refusal.Refusal.{Refusal}
+use Rattle.der_cursor.specs.declared.error.ReadError.{ReadError}
 use Rattle.der_cursor.specs.Cursors.{is_at_end, refusal_text}
 use Rattle.der_elements.specs.declared.name.TypeName.{TypeName}
 use Rattle.der_elements.specs.TypeNames.{type_text}
@@ -33,14 +33,14 @@ why_of_reason (Error (UnexpectedClass due found)) at_end name wrong = unexpected
 why_of_reason _ at_end name wrong = AsRead
 
 -- what can be said of an error, where the refused element has this type or tag, and this can be said of a wrong value
-abbrev pub why_of : Refusal BerError → Option TypeName → Why → Why
+abbrev pub why_of : ReadError BerError → Option TypeName → Why → Why
 why_of e name wrong = why_of_reason e.reason (is_at_end e.list_end e.offset) name wrong
 
 -- the reader's text of an error, where it is promised: der_base promises none of a `BerError`
-abbrev pub text_read : Refusal BerError → Option (List ℕ)
+abbrev pub text_read : ReadError BerError → Option (List ℕ)
 text_read e = refusal_text (λ x. None) (λ x. Some x) e
 
 -- the offset, and what can be said of the error, or else the reader's text
-abbrev pub error_text : Refusal BerError → Why → Option (List ℕ)
+abbrev pub error_text : ReadError BerError → Why → Option (List ℕ)
 error_text e AsRead = text_read e
 error_text e why = Some (codes "at " ++ decimal e.offset ++ codes ": " ++ why_text why)

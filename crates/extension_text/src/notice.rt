@@ -15,7 +15,7 @@ use crate::names::element::AnyValue;
 use crate::names::lines::{write_number, write_optional_any};
 use der_base::any::Any;
 use der_base::error::BerError;
-use der_cursor::{Cursor, Refusal};
+use der_cursor::{Cursor, ReadError};
 use der_extensions::{
     NoticeReference, PolicyQualifierInfo, USER_NOTICE, UserNotice, read_user_notice,
 };
@@ -114,7 +114,7 @@ fn first_number(octets: &[u8]) -> Option<(&[u8], &[u8])>
     Some((number, list.remaining()))
 }
 
-fn read_number<'a>(list: &mut Cursor<'a>) -> Result<&'a [u8], Refusal<BerError>>
+fn read_number<'a>(list: &mut Cursor<'a>) -> Result<&'a [u8], ReadError<BerError>>
     ensures { ReadsField (Required Integer) (λ x. x.now) Never list.old result list.new }
 {
     list.integer()

@@ -13,7 +13,7 @@ use crate::why::{ErrorText, Why, why_of};
 use der_base::any::Any;
 use der_base::error::BerError;
 use der_base::header::{Class, Tag};
-use der_cursor::{Cursor, Refusal};
+use der_cursor::{Cursor, ReadError};
 use der_elements::TypeName;
 use std::fmt;
 
@@ -40,7 +40,7 @@ pub fn write_unread<W: fmt::Write>(
 }
 
 /// The error of a value as text. Its offset counts from the start of the value.
-pub fn error_in<'r>(value: &[u8], refusal: &'r Refusal<BerError>) -> ErrorText<'r>
+pub fn error_in<'r>(value: &[u8], refusal: &'r ReadError<BerError>) -> ErrorText<'r>
     ensures refusal { result.refusal.now ≡ refusal.now }
     ensures why { IsWhyIn value.now refusal.now result.why }
 {
@@ -51,7 +51,7 @@ pub fn error_in<'r>(value: &[u8], refusal: &'r Refusal<BerError>) -> ErrorText<'
 }
 
 /// The more exact reason of a value's error.
-fn why_in(value: &[u8], refusal: &Refusal<BerError>) -> Why
+fn why_in(value: &[u8], refusal: &ReadError<BerError>) -> Why
     ensures { IsWhyIn value.now refusal.now result }
 {
     match element_at(value, refusal.offset) {
@@ -85,7 +85,7 @@ fn first_element(octets: &[u8]) -> Option<Any<'_>>
     }
 }
 
-fn read_element<'a>(rest: &mut Cursor<'a>) -> Result<Any<'a>, Refusal<BerError>>
+fn read_element<'a>(rest: &mut Cursor<'a>) -> Result<Any<'a>, ReadError<BerError>>
     ensures { ReadsField AnyElement element_of Never rest.old result rest.new }
 {
     rest.any()

@@ -5,7 +5,7 @@ ghost use Rattle.extension_text.specs.Why.{unexpected, why_of};
 
 use der_base::error::{BerError, Err as Reason};
 use der_base::header::Class;
-use der_cursor::Refusal;
+use der_cursor::ReadError;
 use der_elements::TypeName;
 use std::fmt;
 
@@ -44,7 +44,7 @@ impl fmt::Display for Why {
 /// The text of an error, with its offset: "at 276: a default value is written (X.690 11.5)".
 #[derive(Clone, Copy)]
 pub struct ErrorText<'r> {
-    pub refusal: &'r Refusal<BerError>,
+    pub refusal: &'r ReadError<BerError>,
     pub why: Why,
 }
 
@@ -64,7 +64,7 @@ impl fmt::Display for ErrorText<'_> {
 
 /// The more exact reason of an error. `name` is the type or tag of the rejected element, if there is one, and `wrong`
 /// the reason if its value is wrong.
-pub fn why_of(refusal: &Refusal<BerError>, name: Option<TypeName>, wrong: Why) -> Why
+pub fn why_of(refusal: &ReadError<BerError>, name: Option<TypeName>, wrong: Why) -> Why
     ensures { result ≡ why_of refusal.now name wrong }
 {
     match &refusal.reason {
@@ -87,7 +87,7 @@ fn unexpected(name: Option<TypeName>) -> Why
 }
 
 /// Returns whether the rejected element is at the end of its list, so that it is missing.
-pub fn is_at_end(refusal: &Refusal<BerError>) -> bool
+pub fn is_at_end(refusal: &ReadError<BerError>) -> bool
     ensures { result ≡ is_at_end refusal.now.list_end refusal.now.offset }
 {
     match refusal.list_end {

@@ -1,3 +1,4 @@
+pub mod FormLaws
 pub mod ItemLaws
 pub mod LineLaws
 pub mod ObjectLaws

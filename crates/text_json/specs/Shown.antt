@@ -1,3 +1,4 @@
+pub mod Forms
 pub mod Items
 pub mod Lines
 pub mod Objects

@@ -4,7 +4,7 @@ use Rattle.std.specs.Global.{Vec}
 use Rattle.der_base.specs.declared.error.Error.{Error as BerError}
 use Rattle.der_base.specs.declared.rules.Rules.TheVariants.{Ber}
 use Rattle.der_cursor.specs.declared.cursor.Cursor.{Cursor}
-use Rattle.der_cursor.specs.declared.refusal.Refusal.{Refusal}
+use Rattle.der_cursor.specs.declared.error.ReadError.{ReadError}
 use Rattle.der_cursor.specs.Cursors.{StartsAt, octets_left, rules_of}
 use Rattle.der_cursor.specs.Formats.{NoMemory, ReadsField}
 use Rattle.messages.specs.declared.ldap.filter.FilterPart.{FilterPart}
@@ -13,7 +13,7 @@ use Rattle.type_words.specs.Filters.{IsFilter}
 
 -- a filter was read at the start of octets
 pub filter_read : {w : List ℕ} {c d : Cursor} {x : Vec FilterPart} → StartsAt Ber w c
-    → ReadsField {E = Refusal BerError} (FilterField 32) (λ (y : Vec FilterPart). filter_of y.items) NoMemory c (Ok x) d
+    → ReadsField {E = ReadError BerError} (FilterField 32) (λ (y : Vec FilterPart). filter_of y.items) NoMemory c (Ok x) d
     → IsFilter w (filter_of x.items)
 filter_read {w} {c} {d} {x} s h =
     let v = filter_of x.items in

@@ -1,7 +1,7 @@
 -- How many elements are in content octets.
 use Rattle.std.specs.Prelude.{◌≡◌, ℕ, true, false, Option, List}
 use Rattle.der_base.specs.declared.rules.Rules.TheVariants.{Ber}
-use Rattle.der_elements.specs.declared.refusal.Refusal.{Refusal}
+use Rattle.der_elements.specs.declared.error.ElementError.{ElementError}
 use Rattle.der_elements.specs.Visits.{Extras, Visited}
 use Rattle.der_elements.specs.Walked.{index_in}
 use Rattle.type_words.specs.Puts.{EndsWith}
@@ -12,4 +12,4 @@ values_kept = record { enters_strings = false; keeps_values = true }
 
 -- how many elements of BER octets begin with: before the first fault, such as end-of-contents octets (8.1.5), or all
 abbrev pub IsCount : List ℕ → ℕ → Type 0
-IsCount w n = (vs : List Visited) × (end : Option Refusal) × EndsWith values_kept Ber w vs end × (n ≡ index_in 0 vs)
+IsCount w n = (vs : List Visited) × (end : Option ElementError) × EndsWith values_kept Ber w vs end × (n ≡ index_in 0 vs)

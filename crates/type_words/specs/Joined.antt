@@ -1,7 +1,7 @@
 -- The texts of elements, with slashes between them.
 use Rattle.std.specs.Prelude.{◌≡◌, ◌+◌, ◌<◌, ℕ, zero, suc, Option, List, [], ◌∷◌, ◌++◌, codes}
 use Rattle.der_base.specs.declared.rules.Rules.TheVariants.{Ber}
-use Rattle.der_elements.specs.declared.refusal.Refusal.{Refusal}
+use Rattle.der_elements.specs.declared.error.ElementError.{ElementError}
 use Rattle.der_elements.specs.Visits.{Visited}
 use Rattle.der_elements.specs.Walked.{index_in}
 use Rattle.der_schema.specs.Encodings.{octets_at}
@@ -26,5 +26,5 @@ pub data AreTexts (w : List ℕ) : List Visited → List ℕ → Type 0 where
 
 -- those of the elements that w begins with
 abbrev pub AreJoined : List ℕ → List ℕ → Type 0
-AreJoined w text = (vs : List Visited) × (end : Option Refusal) × EndsWith values_kept Ber w vs end
+AreJoined w text = (vs : List Visited) × (end : Option ElementError) × EndsWith values_kept Ber w vs end
     × AreTexts w vs text

@@ -2,7 +2,7 @@
 use Rattle.std.specs.Prelude.{◌≡◌, ℕ, Option, Some, None, List, [], ◌∷◌, ◌++◌}
 use Rattle.der_base.specs.declared.rules.Rules.{Rules}
 use Rattle.der_elements.specs.declared.path.Step.{Step}
-use Rattle.der_elements.specs.declared.refusal.Refusal.{Refusal}
+use Rattle.der_elements.specs.declared.error.ElementError.{ElementError}
 use Rattle.der_elements.specs.FirstFault.{IsFirstFault}
 use Rattle.der_elements.specs.Visits.{Extras, Visited, Visits}
 use Rattle.type_words.specs.Items.{Said}
@@ -14,7 +14,7 @@ pub data PutsAll {S : Type 0} (Put : S → Said → S → Type 0) : S → List S
       → PutsAll Put s before u → Put u x t → PutsAll Put s xs t
 
 -- i is elements, which are all visited, or else those before its first fault are
-abbrev pub EndsWith : Extras → Rules → List ℕ → List Visited → Option Refusal → Type 0
+abbrev pub EndsWith : Extras → Rules → List ℕ → List Visited → Option ElementError → Type 0
 EndsWith x r i vs None = Visits x r 101 0 0 i vs
 EndsWith x r i vs (Some fault) = ((us : List Visited) → ¬ Visits x r 101 0 0 i us)
     × ((steps : List Step) × IsFirstFault x r i vs steps fault)

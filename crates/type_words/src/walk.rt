@@ -11,7 +11,7 @@ use crate::item::Sink;
 use crate::places::Places;
 use crate::text::TextLines;
 use der_base::rules::Rules;
-use der_elements::{Refusal, Walk};
+use der_elements::{ElementError, Walk};
 use der_schema::{Namer, Schema};
 use std::alloc::{AllocError, Global};
 
@@ -23,7 +23,7 @@ pub fn write_words<S: Sink>(
     rules: Rules,
     schema: Schema<'_>,
     sink: &mut S,
-) -> Result<Option<Refusal>, AllocError>
+) -> Result<Option<ElementError>, AllocError>
     ensures { IfOk result (λ end. (vs : List Visited) × EndsWith all_extras rules input.now vs end
         × PutsAll S.Sink.put_gives sink.old (items_of (root_of schema.entry) input.now vs) sink.new) }
 {
@@ -50,7 +50,7 @@ pub fn words_text(
     input: &[u8],
     rules: Rules,
     schema: Schema<'_>,
-) -> Result<(Vec<u8>, Option<Refusal>), AllocError>
+) -> Result<(Vec<u8>, Option<ElementError>), AllocError>
     ensures { IfOk result (λ found. (vs : List Visited) × EndsWith all_extras rules input.now vs found.1
         × AreLines (items_of (root_of schema.entry) input.now vs) found.0.items) }
 {

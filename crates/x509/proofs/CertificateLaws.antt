@@ -6,7 +6,7 @@ use Rattle.der_cursor.specs.declared.cursor.Cursor.{Cursor}
 use Rattle.der_cursor.specs.Cursors.{StartsAt}
 use Rattle.der_cursor.proofs.KindLaws.{bits_one, boolean_one, identifier_one, integer_one, number_one, octets_one, time_one}
 use Rattle.x509.specs.declared.certificate.Certificate.{Certificate}
-use Rattle.x509.specs.declared.refusal.CertificateRefusal.{CertificateRefusal}
+use Rattle.x509.specs.declared.error.CertificateError.{CertificateError}
 use Rattle.x509.specs.Certificates.{Algorithm, ReadsCertificate, Signed, Tbs, algorithm_identifier, attribute, certificate, certificate_of, extension, extensions, last_any, name, relative_name}
 use Rattle.x509.specs.Certificates.{subject_public_key_info, tbs_certificate, time, validity, version, whole_certificate}
 use Rattle.x509.specs.Formats.{spells}
@@ -87,7 +87,7 @@ whole_exact = (certificate_exact, λ c. (tt, λ u. tt))
 ended : (i : List ℕ) (v : Signed) (rest : List ℕ) → spells whole_certificate i v rest → rest ≡ []
 ended i v rest (c, m, s, (u, m', e, d)) = d.1 ∙ e.1 ∙ e.0
 
-pub read_from_start : (i : List ℕ) (c : Cursor) (result : Result Certificate CertificateRefusal) → StartsAt Der i c → ReadsToEnd field_fault certificate_of whole_certificate c result
+pub read_from_start : (i : List ℕ) (c : Cursor) (result : Result Certificate CertificateError) → StartsAt Der i c → ReadsToEnd field_fault certificate_of whole_certificate c result
     → ReadsCertificate i result
 read_from_start i c result s a = read_exactly field_fault certificate_of whole_certificate whole_exact ended i c result s a
 

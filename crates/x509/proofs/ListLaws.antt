@@ -4,7 +4,7 @@ use Rattle.der_base.specs.declared.error.Error.{Error as BerError}
 use Rattle.der_base.specs.declared.header.Class.{Class}
 use Rattle.der_base.specs.declared.rules.Rules.TheVariants.{Der}
 use Rattle.der_cursor.specs.declared.cursor.Cursor.{Cursor}
-use Rattle.der_cursor.specs.declared.refusal.Refusal.{Refusal}
+use Rattle.der_cursor.specs.declared.error.ReadError.{ReadError}
 use Rattle.der_cursor.specs.Cursors.{OpensAt, StartsAt, octets_left}
 use Rattle.x509.specs.Formats.{Fault, Format, element, spells, with_octets}
 use Rattle.x509.specs.Lists.{BeginsWithNone}
@@ -13,7 +13,7 @@ use Rattle.x509.proofs.FormatLaws.{IsExact, shows_one}
 use Rattle.x509.proofs.ReaderLaws.{element_less, element_read, element_taken}
 
 -- where an item of a list is refused, the octets begin with none
-pub no_item : {T V : Type 0} {view : T → V} {f : Format Fault V} {i : List ℕ} {c new : Cursor} {e : Refusal BerError} → IsExact f → StartsAt Der i c → ReadsBy fault_of view f c (Err e) new → BeginsWithNone f i
+pub no_item : {T V : Type 0} {view : T → V} {f : Format Fault V} {i : List ℕ} {c new : Cursor} {e : ReadError BerError} → IsExact f → StartsAt Der i c → ReadsBy fault_of view f c (Err e) new → BeginsWithNone f i
 no_item {f = f} {c = c} {e = e} x s a = λ v rest b. (shows_one f x).not_both (spot_of c) v rest (fault_of e) (subst (λ z. spells f z v rest) (sym s.0) b) (a.reads (s.3, s.4))
 
 -- an element has octets

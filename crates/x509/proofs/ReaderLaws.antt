@@ -18,13 +18,13 @@ use Rattle.der_base.specs.Refusal.{Refusal as Name}
 use Rattle.der_base.proofs.Framing.FramingLaws.{element_shorter}
 use Rattle.der_base.proofs.Octets.Identifiers.{identifier_octets}
 use Rattle.der_cursor.specs.declared.cursor.Cursor.{Cursor}
-use Rattle.der_cursor.specs.declared.refusal.Refusal.{Refusal}
+use Rattle.der_cursor.specs.declared.error.ReadError.{ReadError}
 use Rattle.der_cursor.specs.Cursors.{octets_left, end_of, is_inside, place_of, rules_of, advanced, refusal_at, RefusesAt, LacksAt, OpensAt, OpensType, OpensTagged, EndsAt}
 use Rattle.der_cursor.specs.Cursors.{ReadsValue, ReadsOptional, ReadsOr, ReadsAnyAt, IsTagged, class_wanted, number_wanted, contents}
 use Rattle.der_cursor.specs.Elements.{SpellsElement, ElementRefuses, element_of, marker_size}
 use Rattle.der_values.specs.Kinds.{Kind, booleans}
-use Rattle.x509.specs.declared.refusal.CertificateRefusal.{CertificateRefusal}
-use Rattle.x509.specs.declared.refusal.Field.{Field}
+use Rattle.x509.specs.declared.error.CertificateError.{CertificateError}
+use Rattle.x509.specs.declared.error.Field.{Field}
 use Rattle.x509.specs.Certificates.{boolean_or_false, last_any}
 use Rattle.x509.specs.Formats.{Fault, FieldFault, Format, Items, Spot, IsReason, ◌>>=◌, any, done, each, either, element, end_of_content, explicit_or, inside, list_of, more, named, none}
 use Rattle.x509.specs.Formats.{optional_implicit, primitive, requiring, some_octets, with_octets, content_at, fault_at, left_at, refuses, spells}
@@ -60,7 +60,7 @@ reason_is P Q c (Incomplete Unknown) m = absurd m
 reason_is P Q c (Failure x) m = absurd m
 reason_is P Q c OutOfMemory m = absurd m
 
-faulted : (c : Cursor) (e : Refusal BerError) → e ≡ refusal_at c e.reason → fault_of e ≡ fault_at (spot_of c) (reason_named e.reason)
+faulted : (c : Cursor) (e : ReadError BerError) → e ≡ refusal_at c e.reason → fault_of e ≡ fault_at (spot_of c) (reason_named e.reason)
 faulted c e q = ap (λ x. fault_of x) q
 
 -- one format after another
@@ -136,7 +136,7 @@ pub second : {X E T V : Type 0} {fault : X → E} {view : T → V} {f g : Format
 second {fault = fault} {view = view} {f = f} {g = g} {P = P} {old = old} {new = new} {result = result} p a = record { reads = λ h. second_to fault view f g P old new result p (a.reads h) }
 
 -- an element that is opened
-element_direct : (c : Cursor) (k : Class) (p : Bool) (t : ℕ) (result : Result Cursor (Refusal BerError)) (new : Cursor) → OpensAt k p t (der c) result new
+element_direct : (c : Cursor) (k : Class) (p : Bool) (t : ℕ) (result : Result Cursor (ReadError BerError)) (new : Cursor) → OpensAt k p t (der c) result new
     → Reads fault_of octets_left (element k p t) (der c) result new
 element_direct c k p t (Ok inner) new o = (o.element.found, o.places.0)
 element_direct c k p t (Err e) new o = (
@@ -145,14 +145,14 @@ element_direct c k p t (Err e) new o = (
   reason_is (λ x. SpellsElement Der k p t (octets_left c) (contents x)) (ElementRefuses Der k p t (octets_left c)) c e.reason o.element.found,
 )
 
-pub element_read : (k : Class) (p : Bool) (t : ℕ) {old new : Cursor} {result : Result Cursor (Refusal BerError)} → OpensAt k p t old result new
+pub element_read : (k : Class) (p : Bool) (t : ℕ) {old new : Cursor} {result : Result Cursor (ReadError BerError)} → OpensAt k p t old result new
     → ReadsBy fault_of octets_left (element k p t) old result new
 element_read k p t {old} {new} {result} o = record {
   reads = λ h. at_plain (λ c. OpensAt k p t c result new → Reads fault_of octets_left (element k p t) c result new) old h
       (element_direct (record old { implicit = None }) k p t result new) o;
 }
 
-pub type_read : (p : Bool) (t : ℕ) {old new : Cursor} {result : Result Cursor (Refusal BerError)} → OpensType p t old result new
+pub type_read : (p : Bool) (t : ℕ) {old new : Cursor} {result : Result Cursor (ReadError BerError)} → OpensType p t old result new
     → ReadsBy fault_of octets_left (element Universal p t) old result new
 type_read p t {old} {new} {result} o = record {
   reads = λ h. at_plain (λ c. OpensType p t c result new → Reads fault_of octets_left (element Universal p t) c result new) old h
@@ -186,12 +186,12 @@ content_of_type p t {old} {inner} {new} o h = at_plain (λ c. OpensType p t c (O
     (content_direct (record old { implicit = None }) Universal p t inner new) o
 
 -- what follows an element that was opened
-pub opened : (p : Bool) (t : ℕ) {T V : Type 0} {view : T → V} {k : List ℕ → Format Fault V} {old inner mid new : Cursor} {result : Result T (Refusal BerError)}
+pub opened : (p : Bool) (t : ℕ) {T V : Type 0} {view : T → V} {k : List ℕ → Format Fault V} {old inner mid new : Cursor} {result : Result T (ReadError BerError)}
     → OpensType p t old (Ok inner) mid → (IsContent inner mid → ReadsBy fault_of view (k (octets_left inner)) mid result new)
     → ReadsBy fault_of view (element Universal p t >>= k) old result new
 opened p t {k = k} o a = record { reads = λ h. (step {k = k} (type_read p t o) (a (content_of_type p t o h))).reads h }
 
-pub opened_tag : (n : ℕ) {T V : Type 0} {view : T → V} {k : List ℕ → Format Fault V} {old inner mid new : Cursor} {result : Result T (Refusal BerError)}
+pub opened_tag : (n : ℕ) {T V : Type 0} {view : T → V} {k : List ℕ → Format Fault V} {old inner mid new : Cursor} {result : Result T (ReadError BerError)}
     → OpensAt ContextSpecific true n old (Ok inner) mid → (IsContent inner mid → ReadsBy fault_of view (k (octets_left inner)) mid result new)
     → ReadsBy fault_of view (element ContextSpecific true n >>= k) old result new
 opened_tag n {k = k} o a = record { reads = λ h. (step {k = k} (element_read ContextSpecific true n o) (a (content_is ContextSpecific true n o h))).reads h }
@@ -219,7 +219,7 @@ within i a = within_whole i (whole a)
 
 -- a value of a primitive type
 module _ {T V : Type 0} (value : T → V) (k : Kind V) (t : ℕ) where
-  value_direct : (c : Cursor) (result : Result T (Refusal BerError)) (new : Cursor) → ReadsValue value k t (der c) result new
+  value_direct : (c : Cursor) (result : Result T (ReadError BerError)) (new : Cursor) → ReadsValue value k t (der c) result new
       → Reads fault_of value (primitive (class_wanted c.implicit) (number_wanted c.implicit t) k) (der c) result new
   value_direct c (Ok x) new r = (r.value_read.found, r.place)
   value_direct c (Err e) new r = (
@@ -228,7 +228,7 @@ module _ {T V : Type 0} (value : T → V) (k : Kind V) (t : ℕ) where
     reason_is _ _ c e.reason r.value_read.found,
   )
 
-pub value_read : {T V : Type 0} {value : T → V} (k : Rules → Kind V) (t : ℕ) {old new : Cursor} {result : Result T (Refusal BerError)} → ReadsValue value (k (rules_of old)) t old result new
+pub value_read : {T V : Type 0} {value : T → V} (k : Rules → Kind V) (t : ℕ) {old new : Cursor} {result : Result T (ReadError BerError)} → ReadsValue value (k (rules_of old)) t old result new
     → ReadsBy fault_of value (primitive Universal t (k Der)) old result new
 value_read {value = value} k t {old} {new} {result} r = record {
   reads = λ h. at_plain (λ c. ReadsValue value (k (rules_of c)) t c result new → Reads fault_of value (primitive Universal t (k Der)) c result new) old h
@@ -236,7 +236,7 @@ value_read {value = value} k t {old} {new} {result} r = record {
 }
 
 -- an element of any type
-any_direct : (c : Cursor) (result : Result Any (Refusal BerError)) (new : Cursor) → ReadsAnyAt (der c) result new → Reads fault_of element_of any (der c) result new
+any_direct : (c : Cursor) (result : Result Any (ReadError BerError)) (new : Cursor) → ReadsAnyAt (der c) result new → Reads fault_of element_of any (der c) result new
 any_direct c (Ok x) new r = ((r.any_read.found, r.header), r.place)
 any_direct c (Err e) new r = (
   reason_named e.reason,
@@ -244,21 +244,21 @@ any_direct c (Err e) new r = (
   reason_is _ _ c e.reason r.any_read.found,
 )
 
-pub any_read : {old new : Cursor} {result : Result Any (Refusal BerError)} → ReadsAnyAt old result new → ReadsBy fault_of element_of any old result new
+pub any_read : {old new : Cursor} {result : Result Any (ReadError BerError)} → ReadsAnyAt old result new → ReadsBy fault_of element_of any old result new
 any_read {old} {new} {result} r = record {
   reads = λ h. at_plain (λ c. ReadsAnyAt c result new → Reads fault_of element_of any c result new) old h (any_direct (record old { implicit = None }) result new) r;
 }
 
 -- the end of a content
-end_to : (c : Cursor) (result : Result (Unit {0}) (Refusal BerError)) → IsPlain c → EndsAt c result → Reads fault_of (λ u. u) end_of_content c result c
+end_to : (c : Cursor) (result : Result (Unit {0}) (ReadError BerError)) → IsPlain c → EndsAt c result → Reads fault_of (λ u. u) end_of_content c result c
 end_to c (Ok u) h e = ((e, refl), stays c h)
 end_to c (Err e) h q = (q.0, ap (λ x. fault_of x) q.1)
 
-pub end_read : {c : Cursor} {result : Result (Unit {0}) (Refusal BerError)} → EndsAt c result → ReadsBy fault_of (λ u. u) end_of_content c result c
+pub end_read : {c : Cursor} {result : Result (Unit {0}) (ReadError BerError)} → EndsAt c result → ReadsBy fault_of (λ u. u) end_of_content c result c
 end_read {c = c} {result = result} e = record { reads = λ h. end_to c result h e }
 
 -- a BOOLEAN with the default false
-boolean_direct : (c : Cursor) (result : Result Bool (Refusal BerError)) (new : Cursor) → ReadsOr (λ v. v) (booleans Der) 1 false (plain_of c) result new
+boolean_direct : (c : Cursor) (result : Result Bool (ReadError BerError)) (new : Cursor) → ReadsOr (λ v. v) (booleans Der) 1 false (plain_of c) result new
     → Reads fault_of (λ v. v) boolean_or_false (plain_of c) result new
 boolean_direct c (Ok x) new (inl (n, e, q)) = (inr (n, (e, ap (λ d. octets_left d) q)), q ∙ ap (λ l. advanced (plain_of c) l) (sym (ap (λ d. d.left) q)))
 boolean_direct c (Ok x) new (inr (n, r, d)) = let v = value_direct (λ v. v) (booleans Der) 1 (record c { implicit = None }) (Ok x) new r in (inl (n, (v.0, d refl)), v.1)
@@ -267,7 +267,7 @@ boolean_direct c (Err e) new (n, inr (d, after, r, q, s)) =
     let v = value_direct (λ v. v) (booleans Der) 1 (record c { implicit = None }) (Ok false) after r in
     inl (n, inr (false, octets_left after, v.0, (λ z. z refl), ap (λ x. fault_of x) q))
 
-pub boolean_read : {old new : Cursor} {result : Result Bool (Refusal BerError)} → ReadsOr (λ v. v) (booleans (rules_of old)) 1 false old result new
+pub boolean_read : {old new : Cursor} {result : Result Bool (ReadError BerError)} → ReadsOr (λ v. v) (booleans (rules_of old)) 1 false old result new
     → ReadsBy fault_of (λ v. v) boolean_or_false old result new
 boolean_read {old} {new} {result} r = record {
   reads = λ h. at_plain (λ c. ReadsOr (λ v. v) (booleans (rules_of c)) 1 false c result new → Reads fault_of (λ v. v) boolean_or_false c result new) old h
@@ -279,7 +279,7 @@ abbrev tagged_of : ℕ → Cursor → Cursor
 tagged_of n c = record c { rules = Der; implicit = Some (ContextSpecific, record { 0 = n }) }
 
 module _ {T V : Type 0} (value : T → V) (k : Kind V) (n t : ℕ) where
-  optional_direct : (c : Cursor) (result : Result (Option T) (Refusal BerError)) (new : Cursor) → ReadsOptional value k t (tagged_of n c) result new
+  optional_direct : (c : Cursor) (result : Result (Option T) (ReadError BerError)) (new : Cursor) → ReadsOptional value k t (tagged_of n c) result new
       → Reads fault_of (option_map value) (optional_implicit n k) (plain_of c) result new
   optional_direct c (Ok None) new (a, q) = (inr (a, (refl, ap (λ d. octets_left d) q)), q ∙ ap (λ l. advanced (plain_of c) l) (sym (ap (λ d. d.left) q)))
   optional_direct c (Ok (Some x)) new (a, r) =
@@ -287,7 +287,7 @@ module _ {T V : Type 0} (value : T → V) (k : Kind V) (n t : ℕ) where
       (inl (a, (value x, octets_left new, v.0, (refl, refl))), v.1)
   optional_direct c (Err e) new (a, r) = inl (a, inl (value_direct value k t (record c { implicit = Some (ContextSpecific, record { 0 = n }) }) (Err e) new r))
 
-pub optional_read : {T V : Type 0} {value : T → V} (k : Rules → Kind V) (n t : ℕ) {old tagged new : Cursor} {result : Result (Option T) (Refusal BerError)} → IsTagged ContextSpecific n old tagged
+pub optional_read : {T V : Type 0} {value : T → V} (k : Rules → Kind V) (n t : ℕ) {old tagged new : Cursor} {result : Result (Option T) (ReadError BerError)} → IsTagged ContextSpecific n old tagged
     → ReadsOptional value (k (rules_of tagged)) t tagged result new → ReadsBy fault_of (option_map value) (optional_implicit n (k Der)) old result new
 optional_read {value = value} k n t {old} {tagged} {new} {result} g r = record {
   reads = λ h. at_plain (λ c. ReadsOptional value (k (rules_of c)) t (record c { implicit = Some (ContextSpecific, record { 0 = n }) }) result new
@@ -296,23 +296,23 @@ optional_read {value = value} k n t {old} {tagged} {new} {result} g r = record {
 }
 
 -- the field of a value, where `at` makes its refusals
-module _ {N X : Type 0} (fault : X → N × Fault) (at : N → Refusal BerError → X) (same : (n : N) (e : Refusal BerError) → fault (at n e) ≡ (n, fault_of e)) where
-  named_to : {T V : Type 0} (view : T → V) (f : Format Fault V) (old new : Cursor) (n : N) (found : Result T (Refusal BerError)) (result : Result T X)
+module _ {N X : Type 0} (fault : X → N × Fault) (at : N → ReadError BerError → X) (same : (n : N) (e : ReadError BerError) → fault (at n e) ≡ (n, fault_of e)) where
+  named_to : {T V : Type 0} (view : T → V) (f : Format Fault V) (old new : Cursor) (n : N) (found : Result T (ReadError BerError)) (result : Result T X)
       → NamesBy at n found result → Reads fault_of view f old found new → Reads fault view (named n f) old result new
   named_to view f old new n (Ok x) result e r = subst (λ z. Reads fault view (named n f) old z new) (sym e) r
   named_to view f old new n (Err x) result e r = subst (λ z. Reads fault view (named n f) old z new) (sym e) (fault_of x, r, same n x)
 
-  pub named_by : {T V : Type 0} {view : T → V} {f : Format Fault V} {old new : Cursor} (n : N) (found : Result T (Refusal BerError)) {result : Result T X}
+  pub named_by : {T V : Type 0} {view : T → V} {f : Format Fault V} {old new : Cursor} (n : N) (found : Result T (ReadError BerError)) {result : Result T X}
       → NamesBy at n found result → ReadsBy fault_of view f old found new → ReadsBy fault view (named n f) old result new
   named_by {view = view} {f = f} {old = old} {new = new} n found {result} e a = record { reads = λ h. named_to view f old new n found result e (a.reads h) }
 
-  found_by : {T : Type 0} (n : N) (found : Result T (Refusal BerError)) (x : T) → NamesBy at n found (Ok x) → found ≡ Ok x
+  found_by : {T : Type 0} (n : N) (found : Result T (ReadError BerError)) (x : T) → NamesBy at n found (Ok x) → found ≡ Ok x
   found_by n (Ok y) x e = let q : y ≡ x = cc in ap (λ z. Ok z) q
   found_by n (Err y) x e = let q : ⊥ = cc in absurd q
 
   -- what follows an element that was opened, of a field
   pub opened_by : (n : N) (p : Bool) (t : ℕ) {T V : Type 0} {view : T → V} {k : List ℕ → Format (N × Fault) V} {old inner mid new : Cursor} {result : Result T X}
-      (found : Result Cursor (Refusal BerError)) → NamesBy at n found (Ok inner) → OpensType p t old found mid
+      (found : Result Cursor (ReadError BerError)) → NamesBy at n found (Ok inner) → OpensType p t old found mid
       → (IsContent inner mid → ReadsBy fault view (k (octets_left inner)) mid result new)
       → ReadsBy fault view (named n (element Universal p t) >>= k) old result new
   opened_by n p t {k = k} {old = old} {inner = inner} {mid = mid} found e o a =
@@ -320,12 +320,12 @@ module _ {N X : Type 0} (fault : X → N × Fault) (at : N → Refusal BerError 
       record { reads = λ h. (step {k = k} (named_by n (Ok inner) refl (type_read p t o')) (a (content_of_type p t o' h))).reads h }
 
 -- the same of a field of a certificate
-pub named_read : {T V : Type 0} {view : T → V} {f : Format Fault V} {old new : Cursor} (n : Field) (found : Result T (Refusal BerError)) {result : Result T CertificateRefusal}
+pub named_read : {T V : Type 0} {view : T → V} {f : Format Fault V} {old new : Cursor} (n : Field) (found : Result T (ReadError BerError)) {result : Result T CertificateError}
     → NamesField n found result → ReadsBy fault_of view f old found new → ReadsBy field_fault view (named n f) old result new
 named_read n found e a = named_by field_fault certificate_refusal (λ n e. refl) n found e a
 
-pub opened_field : (n : Field) (p : Bool) (t : ℕ) {T V : Type 0} {view : T → V} {k : List ℕ → Format FieldFault V} {old inner mid new : Cursor} {result : Result T CertificateRefusal}
-    (found : Result Cursor (Refusal BerError)) → NamesField n found (Ok inner) → OpensType p t old found mid
+pub opened_field : (n : Field) (p : Bool) (t : ℕ) {T V : Type 0} {view : T → V} {k : List ℕ → Format FieldFault V} {old inner mid new : Cursor} {result : Result T CertificateError}
+    (found : Result Cursor (ReadError BerError)) → NamesField n found (Ok inner) → OpensType p t old found mid
     → (IsContent inner mid → ReadsBy field_fault view (k (octets_left inner)) mid result new)
     → ReadsBy field_fault view (named n (element Universal p t) >>= k) old result new
 opened_field n p t found e o a = opened_by field_fault certificate_refusal (λ n e. refl) n p t found e o a
@@ -373,7 +373,7 @@ reaches_more {view = view} {old = old} {now = now} {next = next} {x = x} r n a =
 pub reaches_end : {V : Type 0} {f : Format Fault V} {old now : Cursor} {u : Unit {0}} → Reaches f old now → octets_left now ≡ [] → ReadsToEnd fault_of (λ u. u) (list_of f) old (Ok u)
 reaches_end {now = now} r e = record { reads_whole = λ h. (octets_left now, ((r.so_far h).0, e)) }
 
-pub reaches_refused : {T V : Type 0} {view : T → V} {f : Format Fault V} {old now next : Cursor} {e : Refusal BerError} → Reaches f old now → octets_left now ≢ [] → ReadsBy fault_of view f now (Err e) next
+pub reaches_refused : {T V : Type 0} {view : T → V} {f : Format Fault V} {old now next : Cursor} {e : ReadError BerError} → Reaches f old now → octets_left now ≢ [] → ReadsBy fault_of view f now (Err e) next
     → ReadsToEnd {T = Unit {0}} fault_of (λ u. u) (list_of f) old (Err e)
 reaches_refused {f = f} {old = old} {now = now} {e = e} r n a = record {
   reads_whole = λ h.
@@ -382,16 +382,16 @@ reaches_refused {f = f} {old = old} {now = now} {e = e} r n a = record {
 }
 
 -- one item at least
-some_to : (f : Format Fault (Unit {0})) (old : Cursor) (result : Result (Unit {0}) (Refusal BerError)) → octets_left old ≢ [] → ReadsWhole fault_of (λ u. u) f old result
+some_to : (f : Format Fault (Unit {0})) (old : Cursor) (result : Result (Unit {0}) (ReadError BerError)) → octets_left old ≢ [] → ReadsWhole fault_of (λ u. u) f old result
     → ReadsWhole fault_of (λ u. u) (some_octets >>= λ u. f) old result
 some_to f old (Ok u) n r = (r.0, (tt, octets_left old, (n, refl), r.1))
 some_to f old (Err e) n r = inr (tt, octets_left old, (n, refl), r)
 
-pub some_read : {f : Format Fault (Unit {0})} {old : Cursor} {result : Result (Unit {0}) (Refusal BerError)} → octets_left old ≢ [] → ReadsToEnd fault_of (λ u. u) f old result
+pub some_read : {f : Format Fault (Unit {0})} {old : Cursor} {result : Result (Unit {0}) (ReadError BerError)} → octets_left old ≢ [] → ReadsToEnd fault_of (λ u. u) f old result
     → ReadsToEnd fault_of (λ u. u) (some_octets >>= λ u. f) old result
 some_read {f = f} {old = old} {result = result} n a = record { reads_whole = λ h. some_to f old result n (a.reads_whole h) }
 
-pub none_read : {f : Format Fault (Unit {0})} {old : Cursor} {e : Refusal BerError} → octets_left old ≡ [] → e ≡ refusal_at old (Error BerValueError)
+pub none_read : {f : Format Fault (Unit {0})} {old : Cursor} {e : ReadError BerError} → octets_left old ≡ [] → e ≡ refusal_at old (Error BerValueError)
     → ReadsToEnd {T = Unit {0}} fault_of (λ u. u) (some_octets >>= λ u. f) old (Err e)
 none_read {old = old} z q = record { reads_whole = λ h. inl ((λ n. n z), ap (λ x. fault_of x) q) }
 
@@ -416,7 +416,7 @@ pub finish_whole : {X E T V T' V' : Type 0} {fault : X → E} {view : T → V} {
 finish_whole {view = view} {x = x} a g = record { reads_whole = λ h. let r = a.reads_whole h in (r.0, (view x, r.0, r.1, g r.0)) }
 
 -- the last element of a content
-last_to : (old mid : Cursor) (x : Any) (result : Result (Unit {0}) (Refusal BerError)) → octets_left old ≢ [] → spells any (octets_left old) (element_of x) (octets_left mid) → mid ≡ advanced old mid.left
+last_to : (old mid : Cursor) (x : Any) (result : Result (Unit {0}) (ReadError BerError)) → octets_left old ≢ [] → spells any (octets_left old) (element_of x) (octets_left mid) → mid ≡ advanced old mid.left
     → EndsAt mid result → ReadsWhole fault_of (λ u. octets_left old) last_any old result
 last_to old mid x (Ok u) n s m e = (
   octets_left mid,
@@ -435,11 +435,11 @@ last_to old mid x (Err e) n s m q =
     let r : refuses end_of_content (spot_of mid) (fault_of e) = (q.0, ap (λ x. fault_of x) q.1) in
     inr (n, inr ((b.0, element_of x), octets_left mid, (s, b.1), inl (subst (λ z. refuses end_of_content z (fault_of e)) (moved old mid m) r)))
 
-pub last_read : {old mid : Cursor} {x : Any} {result : Result (Unit {0}) (Refusal BerError)} → octets_left old ≢ [] → ReadsAnyAt old (Ok x) mid → EndsAt mid result
+pub last_read : {old mid : Cursor} {x : Any} {result : Result (Unit {0}) (ReadError BerError)} → octets_left old ≢ [] → ReadsAnyAt old (Ok x) mid → EndsAt mid result
     → ReadsToEnd fault_of (λ u. octets_left old) last_any old result
 last_read {old = old} {mid = mid} {x = x} {result = result} n a e = record { reads_whole = λ h. let r = (any_read a).reads h in last_to old mid x result n r.0 r.1 e }
 
-pub last_refused : {old mid : Cursor} {e : Refusal BerError} → octets_left old ≢ [] → ReadsAnyAt old (Err e) mid → ReadsToEnd {T = Unit {0}} fault_of (λ u. octets_left old) last_any old (Err e)
+pub last_refused : {old mid : Cursor} {e : ReadError BerError} → octets_left old ≢ [] → ReadsAnyAt old (Err e) mid → ReadsToEnd {T = Unit {0}} fault_of (λ u. octets_left old) last_any old (Err e)
 last_refused n a = record { reads_whole = λ h. inr (n, inl ((any_read a).reads h)) }
 
 pub last_absent : {old : Cursor} {u : Unit {0}} → octets_left old ≡ [] → ReadsToEnd fault_of (λ u. octets_left old) last_any old (Ok u)
@@ -450,11 +450,11 @@ pub tag_absent : {T V : Type 0} {view : T → V} {v : V} {f : Format Fault V} (n
     → ReadsBy fault_of view (explicit_or v n f) old (Ok x) mid
 tag_absent n o q = second o.0 (nothing_read q o.1)
 
-pub tag_refused : {T V : Type 0} {view : T → V} {v : V} {f : Format Fault V} (n : ℕ) {old mid : Cursor} {e : Refusal BerError} → OpensTagged n old (Err e) mid
+pub tag_refused : {T V : Type 0} {view : T → V} {v : V} {f : Format Fault V} (n : ℕ) {old mid : Cursor} {e : ReadError BerError} → OpensTagged n old (Err e) mid
     → ReadsBy fault_of view (explicit_or v n f) old (Err e) mid
 tag_refused n o = first o.0 (stop (element_read ContextSpecific true n o.1))
 
-pub tag_read : {T V : Type 0} {view : T → V} {v : V} {f : Format Fault V} (n : ℕ) {old inner mid new : Cursor} {result : Result T (Refusal BerError)} (found : Option Cursor) → OpensTagged n old (Ok found) mid
+pub tag_read : {T V : Type 0} {view : T → V} {v : V} {f : Format Fault V} (n : ℕ) {old inner mid new : Cursor} {result : Result T (ReadError BerError)} (found : Option Cursor) → OpensTagged n old (Ok found) mid
     → found ≡ Some inner → (IsContent inner mid → ReadsBy fault_of view (inside (octets_left inner) (f >>= λ v. end_of_content >>= λ u. done v)) mid result new)
     → ReadsBy fault_of view (explicit_or v n f) old result new
 tag_read n {old = old} {mid = mid} found o e a = let t = subst (λ x. OpensTagged n old (Ok x) mid) e o in first t.0 (opened_tag n t.1 a)
@@ -494,11 +494,11 @@ element_taken c p t i w rest s =
     b.1 ∙ ap (λ x. x ++ rest) (sym (front_of i b.0 rest b.1))
 
 -- the same of an element of a field
-module _ {N X : Type 0} (fault : X → N × Fault) (at : N → Refusal BerError → X) (same : (n : N) (e : Refusal BerError) → fault (at n e) ≡ (n, fault_of e)) where
-  pub shorter_by : (n : N) (p : Bool) (t : ℕ) (inner : Cursor) {old mid : Cursor} (found : Result Cursor (Refusal BerError)) → NamesBy at n found (Ok inner) → OpensType p t old found mid → IsShorter old mid
+module _ {N X : Type 0} (fault : X → N × Fault) (at : N → ReadError BerError → X) (same : (n : N) (e : ReadError BerError) → fault (at n e) ≡ (n, fault_of e)) where
+  pub shorter_by : (n : N) (p : Bool) (t : ℕ) (inner : Cursor) {old mid : Cursor} (found : Result Cursor (ReadError BerError)) → NamesBy at n found (Ok inner) → OpensType p t old found mid → IsShorter old mid
   shorter_by n p t inner {old = old} {mid = mid} found e o = type_shorter p t (subst (λ r. OpensType p t old r mid) (found_by fault at same n found inner e) o)
 
-pub shorter_field : (n : Field) (p : Bool) (t : ℕ) (inner : Cursor) {old mid : Cursor} (found : Result Cursor (Refusal BerError)) → NamesField n found (Ok inner) → OpensType p t old found mid → IsShorter old mid
+pub shorter_field : (n : Field) (p : Bool) (t : ℕ) (inner : Cursor) {old mid : Cursor} (found : Result Cursor (ReadError BerError)) → NamesField n found (Ok inner) → OpensType p t old found mid → IsShorter old mid
 shorter_field n p t inner found e o = shorter_by field_fault certificate_refusal (λ n e. refl) n p t inner found e o
 
 -- a cursor that was lent is afterwards what its borrower left

@@ -4,7 +4,7 @@ use Rattle.std.specs.Prelude.{◌↔◌, MatchResult}
 use Rattle.std.proofs.lemmas.Bool.{false≢true}
 use Rattle.x509.specs.declared.certificate.Certificate.{Certificate}
 use Rattle.x509.specs.declared.rules.Rule.{Rule}
-use Rattle.x509.specs.declared.rules.StrictRefusal.{StrictRefusal}
+use Rattle.x509.specs.declared.rules.StrictError.{StrictError}
 use Rattle.x509.specs.Certificates.{Signed, certificate_of, whole_certificate}
 use Rattle.x509.specs.Formats.{spells, start}
 use Rattle.x509.specs.Rules.{IsFirstBroken, IsFirstWrong, IsStrict, NoneBroken, ReadsStrictly, StrictFault, broken, every_rule, not_read, strict_fault}
@@ -41,18 +41,18 @@ one_wrong i (not_read e) (broken r) g (c, s, b) = absurd ((shows_one whole_certi
 one_wrong i (broken r) (not_read f) (c, s, b) h = absurd ((shows_one whole_certificate whole_exact).not_both (start i) c [] f s h)
 one_wrong i (broken r) (broken s) (c, t, b) (d, u, a) = ap broken (one_first every_rule d r s (subst (λ x. IsFirstBroken every_rule x r) (one i c d t u) b) a)
 
-abbrev Found : List ℕ → Result Certificate StrictRefusal → Type 0
+abbrev Found : List ℕ → Result Certificate StrictError → Type 0
 Found i result = MatchResult result (λ c. IsStrict i (certificate_of c)) (λ e. IsFirstWrong i (strict_fault e))
 
-only : (i : List ℕ) (result : Result Certificate StrictRefusal) → Found i result → (c : Signed) → IsStrict i c → MatchResult result (λ x. certificate_of x ≡ c) (λ e. ⊥)
+only : (i : List ℕ) (result : Result Certificate StrictError) → Found i result → (c : Signed) → IsStrict i c → MatchResult result (λ x. certificate_of x ≡ c) (λ e. ⊥)
 only i (Ok x) f c s = one i (certificate_of x) c f.0 s.0
 only i (Err e) f c s = not_wrong i c (strict_fault e) s f
 
-refused : (i : List ℕ) (result : Result Certificate StrictRefusal) → Found i result → (e : StrictFault) → IsFirstWrong i e → MatchResult result (λ x. ⊥) (λ x. strict_fault x ≡ e)
+refused : (i : List ℕ) (result : Result Certificate StrictError) → Found i result → (e : StrictFault) → IsFirstWrong i e → MatchResult result (λ x. ⊥) (λ x. strict_fault x ≡ e)
 refused i (Ok x) f e w = not_wrong i (certificate_of x) e f w
 refused i (Err x) f e w = one_wrong i (strict_fault x) e f w
 
 -- what is found is all there is
-pub reads_strictly : (i : List ℕ) (result : Result Certificate StrictRefusal) → MatchResult result (λ c. IsStrict i (certificate_of c)) (λ e. IsFirstWrong i (strict_fault e))
+pub reads_strictly : (i : List ℕ) (result : Result Certificate StrictError) → MatchResult result (λ c. IsStrict i (certificate_of c)) (λ e. IsFirstWrong i (strict_fault e))
     → ReadsStrictly i result
 reads_strictly i result f = record { found = f; only = only i result f; refuses = refused i result f }

@@ -21,8 +21,8 @@ use Rattle.x509.specs.declared.certificate.Version.{Version}
 use Rattle.x509.specs.declared.certificate.Version.TheVariants.{V1, V2, V3}
 use Rattle.x509.specs.declared.extension.Extension.{Extension}
 use Rattle.x509.specs.declared.name.AttributeTypeAndValue.{AttributeTypeAndValue}
-use Rattle.x509.specs.declared.refusal.CertificateRefusal.{CertificateRefusal}
-use Rattle.x509.specs.declared.refusal.Field.TheVariants as field
+use Rattle.x509.specs.declared.error.CertificateError.{CertificateError}
+use Rattle.x509.specs.declared.error.Field.TheVariants as field
 use Rattle.x509.specs.declared.time.Time.{Time}
 use Rattle.x509.specs.declared.time.Time.TheVariants.{Generalized, Utc}
 use Rattle.x509.specs.declared.time.Validity.{Validity}
@@ -317,5 +317,5 @@ certificate_of c = record {
 }
 
 -- A reader returns a certificate exactly where the octets are one; else the first fault.
-abbrev pub ReadsCertificate : List ℕ → Result Certificate CertificateRefusal → Type 0
+abbrev pub ReadsCertificate : List ℕ → Result Certificate CertificateError → Type 0
 ReadsCertificate i result = ReadsExactly field_fault certificate_of whole_certificate i result

@@ -12,7 +12,7 @@ use Rattle.der_cursor.specs.Cursors.{list_end}
 use Rattle.der_cursor.specs.Elements.{Element, SpellsAny, SpellsElement, ElementRefuses, ElementLacks, NoElement}
 use Rattle.der_cursor.specs.Elements.{BeginsWithTag, IsNext}
 use Rattle.der_values.specs.Kinds.{Kind}
-use Rattle.x509.specs.declared.refusal.Field.{Field}
+use Rattle.x509.specs.declared.error.Field.{Field}
 
 -- Where a reader is: the octets that aren't read yet, where they end in the input, and whether they are the content of
 -- an element.

@@ -7,10 +7,10 @@ use Rattle.der_base.specs.declared.error.Needed.TheVariants.{Size}
 use Rattle.der_base.specs.declared.rules.Rules.TheVariants.{Der}
 use Rattle.der_base.specs.Refusal.{refusal}
 use Rattle.der_cursor.specs.declared.cursor.Cursor.{Cursor}
-use Rattle.der_cursor.specs.declared.refusal.Refusal.{Refusal}
+use Rattle.der_cursor.specs.declared.error.ReadError.{ReadError}
 use Rattle.der_cursor.specs.Cursors.{octets_left, end_of, is_inside, rules_of, advanced}
-use Rattle.x509.specs.declared.refusal.CertificateRefusal.{CertificateRefusal}
-use Rattle.x509.specs.declared.refusal.Field.{Field}
+use Rattle.x509.specs.declared.error.CertificateError.{CertificateError}
+use Rattle.x509.specs.declared.error.Field.{Field}
 use Rattle.x509.specs.Formats.{Fault, FieldFault, Format, Reason, Spot, refuses, spells, start, wrong, lacking}
 use Rattle.x509.specs.Formats.{unnamed}
 
@@ -20,11 +20,11 @@ reason_named (Error e) = wrong (refusal e)
 reason_named (Incomplete (Size n)) = lacking n
 reason_named _ = unnamed
 
-abbrev pub fault_of : Refusal BerError → Fault
+abbrev pub fault_of : ReadError BerError → Fault
 fault_of e = record { offset = e.offset; list_end = e.list_end; reason = reason_named e.reason }
 
 -- with its field
-abbrev pub field_fault : CertificateRefusal → FieldFault
+abbrev pub field_fault : CertificateError → FieldFault
 field_fault e = (e.field, fault_of e.refusal)
 
 -- where a cursor is
@@ -54,16 +54,16 @@ module _ {X E T V : Type 0} (fault : X → E) (view : T → V) (f : Format E V) 
     pub reads_whole : IsPlain old → ReadsWhole result
 
 -- the value is the same, or its refusal is one of this field, as `at` makes it
-abbrev pub NamesBy : {N X T : Type 0} → (N → Refusal BerError → X) → N → Result T (Refusal BerError) → Result T X
+abbrev pub NamesBy : {N X T : Type 0} → (N → ReadError BerError → X) → N → Result T (ReadError BerError) → Result T X
     → Type 0
 NamesBy at n (Ok x) result = result ≡ Ok x
 NamesBy at n (Err e) result = result ≡ Err (at n e)
 
 -- the same of a field of a certificate
-abbrev pub certificate_refusal : Field → Refusal BerError → CertificateRefusal
+abbrev pub certificate_refusal : Field → ReadError BerError → CertificateError
 certificate_refusal n e = record { field = n; refusal = e }
 
-abbrev pub NamesField : {T : Type 0} → Field → Result T (Refusal BerError) → Result T CertificateRefusal → Type 0
+abbrev pub NamesField : {T : Type 0} → Field → Result T (ReadError BerError) → Result T CertificateError → Type 0
 NamesField n found result = NamesBy certificate_refusal n found result
 
 -- A reader of an input returns a value exactly where the octets are one of the format, with its fields; else the first

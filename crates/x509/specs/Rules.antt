@@ -14,8 +14,8 @@ use Rattle.x509.specs.declared.rules.Rule.TheVariants.{SameAlgorithms, PositiveS
 use Rattle.x509.specs.declared.rules.Rule.TheVariants.{NamedIssuer, OrderedAttributes, UtcTimeTo2049}
 use Rattle.x509.specs.declared.rules.Rule.TheVariants.{WholeSeconds, UniqueIdVersion, ExtensionsVersion}
 use Rattle.x509.specs.declared.rules.Rule.TheVariants.{DistinctExtensions, NamedSubject, DerValues}
-use Rattle.x509.specs.declared.rules.StrictRefusal.{StrictRefusal}
-use Rattle.x509.specs.declared.rules.StrictRefusal.TheVariants.{NotRead, Broken}
+use Rattle.x509.specs.declared.rules.StrictError.{StrictError}
+use Rattle.x509.specs.declared.rules.StrictError.TheVariants.{NotRead, Broken}
 use Rattle.x509.specs.declared.time.Time.{Time}
 use Rattle.x509.specs.declared.time.Time.TheVariants.{Generalized, Utc}
 use Rattle.x509.specs.Certificates.{Algorithm, Signed, certificate_of, extension, whole_certificate}
@@ -124,6 +124,10 @@ AttributesBreakDer i = Somewhere sequence (λ w _. ValueBreaksDer w) i
 abbrev pub NameBreaksDer : List ℕ → Type 0
 NameBreaksDer i = Somewhere set (λ w _. AttributesBreakDer w) i
 
+-- issuer and subject are the same octets
+abbrev pub IsSelfIssued : Signed → Type 0
+IsSelfIssued c = c.tbs_certificate.issuer ≡ c.tbs_certificate.subject
+
 -- the certificate breaks the rule
 abbrev pub Breaks : Rule → Signed → Type 0
 Breaks SameAlgorithms c = c.algorithm ≢ c.tbs_certificate.signature
@@ -166,7 +170,7 @@ pub data StrictFault : Type 0 where
   not_read : FieldFault → StrictFault
   broken : Rule → StrictFault
 
-abbrev pub strict_fault : StrictRefusal → StrictFault
+abbrev pub strict_fault : StrictError → StrictFault
 strict_fault (NotRead e) = not_read (field_fault e)
 strict_fault (Broken r) = broken r
 
@@ -177,7 +181,7 @@ IsFirstWrong i (broken r) = (c : Signed) × spells whole_certificate i c [] × I
 
 -- A strict reader returns a certificate exactly where the octets are one that breaks no rule, with its fields; else the
 -- first thing that is wrong, and that is the only one.
-pub record ReadsStrictly (i : List ℕ) (result : Result Certificate StrictRefusal) : Type 0 where
+pub record ReadsStrictly (i : List ℕ) (result : Result Certificate StrictError) : Type 0 where
   -- what is returned is so
   pub found : MatchResult result (λ c. IsStrict i (certificate_of c)) (λ e. IsFirstWrong i (strict_fault e))
   -- what is so is returned

@@ -5,7 +5,7 @@ ghost use Rattle.x509.specs.Certificates.{subject_public_key_info};
 ghost use Rattle.x509.specs.Readers.{ReadsBy, ReadsToEnd, fault_of};
 
 use der_base::error::BerError;
-use der_cursor::{Cursor, Refusal};
+use der_cursor::{Cursor, ReadError};
 use der_values::{BitString, ObjectIdentifier};
 
 /// An algorithm with its parameters.
@@ -29,7 +29,7 @@ pub struct SubjectPublicKeyInfo<'a> {
 /// Reads an AlgorithmIdentifier.
 pub fn read_algorithm<'a>(
     fields: &mut Cursor<'a>,
-) -> Result<AlgorithmIdentifier<'a>, Refusal<BerError>>
+) -> Result<AlgorithmIdentifier<'a>, ReadError<BerError>>
     ensures { ReadsBy fault_of algorithm_of algorithm_identifier fields.old result fields.new }
 {
     let mut parts = fields.open_sequence()?;
@@ -43,7 +43,7 @@ pub fn read_algorithm<'a>(
 }
 
 /// Reads the parameters of an algorithm: one element, or none.
-fn read_parameters(mut parts: Cursor<'_>) -> Result<(), Refusal<BerError>>
+fn read_parameters(mut parts: Cursor<'_>) -> Result<(), ReadError<BerError>>
     ensures { ReadsToEnd fault_of (λ u. octets_left parts.entry) last_any parts.entry result }
 {
     if parts.is_empty() {
@@ -56,7 +56,7 @@ fn read_parameters(mut parts: Cursor<'_>) -> Result<(), Refusal<BerError>>
 /// Reads a SubjectPublicKeyInfo.
 pub fn read_key_info<'a>(
     fields: &mut Cursor<'a>,
-) -> Result<SubjectPublicKeyInfo<'a>, Refusal<BerError>>
+) -> Result<SubjectPublicKeyInfo<'a>, ReadError<BerError>>
     ensures { ReadsBy fault_of key_info_of subject_public_key_info fields.old result fields.new }
 {
     let mut parts = fields.open_sequence()?;

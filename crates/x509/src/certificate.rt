@@ -10,12 +10,12 @@ ghost use Rattle.x509.specs.Formats.{done, explicit_or, optional_implicit};
 ghost use Rattle.x509.specs.Readers.{IsShorter, ReadsBy, fault_of, field_fault};
 
 use crate::algorithm::{AlgorithmIdentifier, SubjectPublicKeyInfo, read_algorithm, read_key_info};
+use crate::error::{CertificateError, Field};
 use crate::extension::{Extensions, read_extensions};
 use crate::name::{Name, read_name};
-use crate::refusal::{CertificateRefusal, Field};
 use crate::time::{Validity, read_validity};
 use der_base::error::BerError;
-use der_cursor::{Cursor, Refusal};
+use der_cursor::{Cursor, ReadError};
 use der_values::BitString;
 
 /// A certificate. Its octets and texts are slices of the input.
@@ -77,7 +77,7 @@ pub enum Version {
 
 /// Reads a certificate; trailing data is an error. The signature, the order of sets and the content of a value of any
 /// type aren't checked.
-pub fn read_certificate(octets: &[u8]) -> Result<Certificate<'_>, CertificateRefusal>
+pub fn read_certificate(octets: &[u8]) -> Result<Certificate<'_>, CertificateError>
     ensures { ReadsCertificate octets.now result }
 {
     let mut input = Cursor::new(octets);
@@ -87,7 +87,7 @@ pub fn read_certificate(octets: &[u8]) -> Result<Certificate<'_>, CertificateRef
 }
 
 /// Reads a Certificate.
-fn read_parts<'a>(input: &mut Cursor<'a>) -> Result<Certificate<'a>, CertificateRefusal>
+fn read_parts<'a>(input: &mut Cursor<'a>) -> Result<Certificate<'a>, CertificateError>
     ensures { ReadsBy field_fault certificate_of certificate input.old result input.new }
 {
     let mut parts = Field::Certificate.of(input.open_sequence())?;
@@ -106,7 +106,7 @@ fn read_parts<'a>(input: &mut Cursor<'a>) -> Result<Certificate<'a>, Certificate
 }
 
 /// Reads a TBSCertificate.
-fn read_tbs<'a>(parts: &mut Cursor<'a>) -> Result<TbsCertificate<'a>, CertificateRefusal>
+fn read_tbs<'a>(parts: &mut Cursor<'a>) -> Result<TbsCertificate<'a>, CertificateError>
     ensures reads { ReadsBy field_fault tbs_of tbs_certificate parts.old result parts.new }
     ensures shorter { OnOk result (IsShorter parts.old parts.new) }
 {
@@ -129,7 +129,7 @@ fn read_tbs<'a>(parts: &mut Cursor<'a>) -> Result<TbsCertificate<'a>, Certificat
 }
 
 /// Reads the fields of a TBSCertificate up to the validity.
-fn read_issuer_part<'a>(fields: &mut Cursor<'a>) -> Result<IssuerPart<'a>, CertificateRefusal>
+fn read_issuer_part<'a>(fields: &mut Cursor<'a>) -> Result<IssuerPart<'a>, CertificateError>
     ensures { ReadsBy field_fault issuer_part_of (issuer_part (λ p. done p)) fields.old result fields.new }
 {
     let version = Field::Version.of(read_version(fields))?;
@@ -147,7 +147,7 @@ fn read_issuer_part<'a>(fields: &mut Cursor<'a>) -> Result<IssuerPart<'a>, Certi
 }
 
 /// Reads the fields of a TBSCertificate from the subject on.
-fn read_subject_part<'a>(fields: &mut Cursor<'a>) -> Result<SubjectPart<'a>, CertificateRefusal>
+fn read_subject_part<'a>(fields: &mut Cursor<'a>) -> Result<SubjectPart<'a>, CertificateError>
     ensures { ReadsBy field_fault subject_part_of (subject_part (λ p. done p)) fields.old result fields.new }
 {
     let subject = Field::Subject.of(read_name(fields))?;
@@ -168,7 +168,7 @@ fn read_subject_part<'a>(fields: &mut Cursor<'a>) -> Result<SubjectPart<'a>, Cer
 pub fn read_unique_id<'a>(
     fields: &mut Cursor<'a>,
     number: u32,
-) -> Result<Option<BitString<'a>>, Refusal<BerError>>
+) -> Result<Option<BitString<'a>>, ReadError<BerError>>
     ensures { ReadsBy fault_of (option_map bits_of) (optional_implicit number (bit_strings Rules.Der))
         fields.old result fields.new }
 {
@@ -176,7 +176,7 @@ pub fn read_unique_id<'a>(
 }
 
 /// Reads a Version, which is absent iff it is 1.
-pub fn read_version(fields: &mut Cursor<'_>) -> Result<Version, Refusal<BerError>>
+pub fn read_version(fields: &mut Cursor<'_>) -> Result<Version, ReadError<BerError>>
     ensures { ReadsBy fault_of (λ v. v) (explicit_or Version.V1 0 version) fields.old result fields.new }
 {
     let Some(mut inside) = fields.open_tagged(0)? else {
@@ -188,7 +188,7 @@ pub fn read_version(fields: &mut Cursor<'_>) -> Result<Version, Refusal<BerError
 }
 
 /// Reads the number of an encoded Version: 2 or 3.
-fn read_number(inside: &mut Cursor<'_>) -> Result<Version, Refusal<BerError>>
+fn read_number(inside: &mut Cursor<'_>) -> Result<Version, ReadError<BerError>>
     ensures { ReadsBy fault_of (λ v. v) version inside.old result inside.new }
 {
     let before = *inside;

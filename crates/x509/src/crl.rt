@@ -5,14 +5,14 @@
 //! nor are the rules of 5.1 and 5.2 beyond the ASN.1.
 mod display;
 mod entry;
+mod error;
 pub mod laws;
 mod list;
 mod lists;
 mod reason;
-mod refusal;
 
 pub use entry::{RevokedCertificate, RevokedCertificates};
+pub use error::{CertificateListError, Field};
 pub use list::{CertificateList, TbsCertList, read_certificate_list};
 pub use lists::RevokedIter;
 pub use reason::{Reason, read_reason, reason_of};
-pub use refusal::{Field, ListRefusal};

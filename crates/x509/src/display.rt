@@ -1,16 +1,16 @@
 //! The text of an error.
-use crate::refusal::{CertificateRefusal, Field};
+use crate::error::{CertificateError, Field};
 use std::error::Error;
 use std::fmt;
 
 /// The field, the offset and the reason: "tbsCertificate.version at 9: wrong value".
-impl fmt::Display for CertificateRefusal {
+impl fmt::Display for CertificateError {
     fn fmt<W: fmt::Write>(&self, f: &mut fmt::Formatter<W>) -> fmt::Result {
         write!(f, "{} {}", self.field, self.refusal)
     }
 }
 
-impl Error for CertificateRefusal {}
+impl Error for CertificateError {}
 
 /// The path of the field, in the names of the ASN.1 of RFC 5280 4.1.
 impl fmt::Display for Field {

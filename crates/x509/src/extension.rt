@@ -5,7 +5,7 @@ ghost use Rattle.x509.specs.Formats.{explicit_or};
 ghost use Rattle.x509.specs.Readers.{IsShorter, ReadsBy, ReadsToEnd, fault_of};
 
 use der_base::error::BerError;
-use der_cursor::{Cursor, Refusal};
+use der_cursor::{Cursor, ReadError};
 use der_values::ObjectIdentifier;
 
 /// The extensions of a certificate, as their checked octets.
@@ -31,7 +31,7 @@ pub struct Extension<'a> {
 pub fn read_extensions<'a>(
     fields: &mut Cursor<'a>,
     number: u8,
-) -> Result<Extensions<'a>, Refusal<BerError>>
+) -> Result<Extensions<'a>, ReadError<BerError>>
     ensures { ReadsBy fault_of (λ e. e.octets.now) (explicit_or [] number extensions) fields.old result fields.new }
 {
     let Some(mut inside) = fields.open_tagged(number)? else {
@@ -43,7 +43,9 @@ pub fn read_extensions<'a>(
 }
 
 /// Reads an Extensions: at least one extension.
-pub fn read_extension_list<'a>(fields: &mut Cursor<'a>) -> Result<Extensions<'a>, Refusal<BerError>>
+pub fn read_extension_list<'a>(
+    fields: &mut Cursor<'a>,
+) -> Result<Extensions<'a>, ReadError<BerError>>
     ensures { ReadsBy fault_of (λ e. e.octets.now) extensions fields.old result fields.new }
 {
     let list = fields.open_sequence()?;
@@ -54,7 +56,7 @@ pub fn read_extension_list<'a>(fields: &mut Cursor<'a>) -> Result<Extensions<'a>
 }
 
 /// Reads extensions to the end of a list, at least one.
-fn check_extensions(mut list: Cursor<'_>) -> Result<(), Refusal<BerError>>
+fn check_extensions(mut list: Cursor<'_>) -> Result<(), ReadError<BerError>>
     ensures { ReadsToEnd fault_of (λ u. u) extensions_to_end list.entry result }
 {
     if list.is_empty() {
@@ -67,7 +69,7 @@ fn check_extensions(mut list: Cursor<'_>) -> Result<(), Refusal<BerError>>
 }
 
 /// Reads an Extension.
-pub fn read_extension<'a>(list: &mut Cursor<'a>) -> Result<Extension<'a>, Refusal<BerError>>
+pub fn read_extension<'a>(list: &mut Cursor<'a>) -> Result<Extension<'a>, ReadError<BerError>>
     ensures reads { ReadsBy fault_of extension_of extension list.old result list.new }
     ensures shorter { OnOk result (IsShorter list.old list.new) }
 {

@@ -6,7 +6,7 @@ ghost use Rattle.x509.specs.Readers.{IsShorter, ReadsBy, ReadsToEnd, fault_of};
 
 use der_base::any::Any;
 use der_base::error::BerError;
-use der_cursor::{Cursor, Refusal};
+use der_cursor::{Cursor, ReadError};
 use der_values::ObjectIdentifier;
 
 /// A distinguished name, as its checked octets.
@@ -33,7 +33,7 @@ pub struct AttributeTypeAndValue<'a> {
 }
 
 /// Reads a Name.
-pub fn read_name<'a>(fields: &mut Cursor<'a>) -> Result<Name<'a>, Refusal<BerError>>
+pub fn read_name<'a>(fields: &mut Cursor<'a>) -> Result<Name<'a>, ReadError<BerError>>
     ensures { ReadsBy fault_of (λ n. n.octets.now) name fields.old result fields.new }
 {
     let names = fields.open_sequence()?;
@@ -44,7 +44,7 @@ pub fn read_name<'a>(fields: &mut Cursor<'a>) -> Result<Name<'a>, Refusal<BerErr
 }
 
 /// Reads relative names to the end of a list.
-fn check_relative_names(mut names: Cursor<'_>) -> Result<(), Refusal<BerError>>
+fn check_relative_names(mut names: Cursor<'_>) -> Result<(), ReadError<BerError>>
     ensures { ReadsToEnd fault_of (λ u. u) (list_of relative_name) names.entry result }
 {
     while !names.is_empty() {
@@ -56,7 +56,7 @@ fn check_relative_names(mut names: Cursor<'_>) -> Result<(), Refusal<BerError>>
 /// Reads a RelativeDistinguishedName.
 fn read_relative_name<'a>(
     names: &mut Cursor<'a>,
-) -> Result<RelativeDistinguishedName<'a>, Refusal<BerError>>
+) -> Result<RelativeDistinguishedName<'a>, ReadError<BerError>>
     ensures reads { ReadsBy fault_of (λ n. n.octets.now) relative_name names.old result names.new }
     ensures shorter { OnOk result (IsShorter names.old names.new) }
 {
@@ -68,7 +68,7 @@ fn read_relative_name<'a>(
 }
 
 /// Reads attributes to the end of a set, at least one.
-fn check_attributes(mut attributes: Cursor<'_>) -> Result<(), Refusal<BerError>>
+fn check_attributes(mut attributes: Cursor<'_>) -> Result<(), ReadError<BerError>>
     ensures { ReadsToEnd fault_of (λ u. u) attributes_to_end attributes.entry result }
 {
     if attributes.is_empty() {
@@ -83,7 +83,7 @@ fn check_attributes(mut attributes: Cursor<'_>) -> Result<(), Refusal<BerError>>
 /// Reads an AttributeTypeAndValue.
 pub(crate) fn read_attribute<'a>(
     attributes: &mut Cursor<'a>,
-) -> Result<AttributeTypeAndValue<'a>, Refusal<BerError>>
+) -> Result<AttributeTypeAndValue<'a>, ReadError<BerError>>
     ensures reads { ReadsBy fault_of attribute_of attribute attributes.old result attributes.new }
     ensures shorter { OnOk result (IsShorter attributes.old attributes.new) }
 {

@@ -2,13 +2,13 @@
 ghost use Rattle.std.specs.Prelude.{◌≡◌, ◌↔◌, IsTrue, MatchOption};
 ghost use Rattle.x509.specs.Certificates.{algorithm_of, certificate_of};
 ghost use Rattle.x509.specs.Rules.{Breaks, HasFraction, IsEarly, IsFirstBroken, IsPositive, NoneBroken};
-ghost use Rattle.x509.specs.Rules.{ReadsStrictly, every_rule};
+ghost use Rattle.x509.specs.Rules.{IsSelfIssued, ReadsStrictly, every_rule};
 
 use crate::algorithm::AlgorithmIdentifier;
 use crate::certificate::{Certificate, Version, read_certificate};
+use crate::error::CertificateError;
 use crate::identifier::absolute_octets;
 use crate::list_rules::{has_critical_list, has_descent};
-use crate::refusal::CertificateRefusal;
 use crate::repetition::are_indistinct;
 use crate::time::Time;
 use crate::value_rules::{name_breaks_der, parameters_break_der};
@@ -72,6 +72,14 @@ impl Certificate<'_> {
             Rule::NamedSubject => self.breaks_named_subject(),
             Rule::DerValues => self.breaks_der_values(),
         }
+    }
+
+    /// Returns whether issuer and subject have the same octets.
+    #[inline]
+    pub fn is_self_issued(&self) -> bool
+        ensures { IsTrue result ↔ IsSelfIssued (certificate_of self.now) }
+    {
+        self.tbs_certificate.issuer.octets == self.tbs_certificate.subject.octets
     }
 
     /// Returns the first rule that the certificate breaks, in the order of `Rule`.
@@ -150,7 +158,7 @@ impl Certificate<'_> {
         ensures { IsTrue result ↔ Breaks Rule.OrderedAttributes (certificate_of self.now) }
     {
         let fields = &self.tbs_certificate;
-        has_descent(fields.issuer) || has_descent(fields.subject)
+        has_descent(fields.issuer) || (!self.is_self_issued() && has_descent(fields.subject))
     }
 
     fn breaks_utc_time_to_2049(&self) -> bool
@@ -203,29 +211,29 @@ impl Certificate<'_> {
             || parameters_break_der(&fields.signature)
             || parameters_break_der(&fields.subject_public_key_info.algorithm)
             || name_breaks_der(fields.issuer)
-            || name_breaks_der(fields.subject)
+            || (!self.is_self_issued() && name_breaks_der(fields.subject))
     }
 }
 
 /// Why octets aren't a certificate that keeps each `Rule`.
 #[derive(Debug, Drop)]
-pub enum StrictRefusal {
+pub enum StrictError {
     /// They don't match the ASN.1 of a certificate.
-    NotRead(CertificateRefusal),
+    NotRead(CertificateError),
     /// They do, but the certificate breaks this rule, the first in the order of `Rule`.
     Broken(Rule),
 }
 
 /// Reads a certificate that keeps each `Rule`; trailing data is an error.
-pub fn read_strict_certificate(octets: &[u8]) -> Result<Certificate<'_>, StrictRefusal>
+pub fn read_strict_certificate(octets: &[u8]) -> Result<Certificate<'_>, StrictError>
     ensures { ReadsStrictly octets.now result }
 {
     let certificate = match read_certificate(octets) {
         Ok(certificate) => certificate,
-        Err(e) => return Err(StrictRefusal::NotRead(e)),
+        Err(e) => return Err(StrictError::NotRead(e)),
     };
     match certificate.first_broken_rule() {
-        Some(rule) => Err(StrictRefusal::Broken(rule)),
+        Some(rule) => Err(StrictError::Broken(rule)),
         None => Ok(certificate),
     }
 }

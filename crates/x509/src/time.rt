@@ -7,7 +7,7 @@ ghost use Rattle.x509.specs.Times.{IsBefore, IsWithin, units_of};
 use der_base::error::BerError;
 use der_base::header::{Class, Tag};
 use der_base::time::ASN1DateTime;
-use der_cursor::{Cursor, Refusal};
+use der_cursor::{Cursor, ReadError};
 
 /// A time, with the type of its encoding.
 #[derive(Clone, Copy, Debug, PartialEq)]
@@ -77,7 +77,7 @@ impl Validity {
 }
 
 /// Reads a Validity.
-pub fn read_validity(fields: &mut Cursor<'_>) -> Result<Validity, Refusal<BerError>>
+pub fn read_validity(fields: &mut Cursor<'_>) -> Result<Validity, ReadError<BerError>>
     ensures { ReadsBy fault_of (λ v. v) validity fields.old result fields.new }
 {
     let mut parts = fields.open_sequence()?;
@@ -91,7 +91,7 @@ pub fn read_validity(fields: &mut Cursor<'_>) -> Result<Validity, Refusal<BerErr
 }
 
 /// Reads a Time.
-pub fn read_time(parts: &mut Cursor<'_>) -> Result<Time, Refusal<BerError>>
+pub fn read_time(parts: &mut Cursor<'_>) -> Result<Time, ReadError<BerError>>
     ensures { ReadsBy fault_of (λ v. v) time parts.old result parts.new }
 {
     if parts.is_next(Class::Universal, Tag::GeneralizedTime) {

@@ -1,7 +1,7 @@
 -- Words for formats of keys, with the names of their fields.
 use Rattle.std.specs.Prelude.{ℕ, true, Option, Some, None, List, [], ◌∷◌, map}
 use Rattle.der_base.specs.declared.header.Class.TheVariants.{ContextSpecific}
-use Rattle.der_cursor.specs.declared.named.FieldRefusal.{FieldRefusal}
+use Rattle.der_cursor.specs.declared.named.FieldError.{FieldError}
 use Rattle.der_cursor.specs.Elements.{BeginsWithTag}
 use Rattle.der_cursor.specs.Named.{names_of}
 use Rattle.x509.specs.Formats.{Fault, Format, ◌>>=◌, done, either, element, end_of_content, inside, named}
@@ -11,7 +11,7 @@ use Rattle.x509.specs.Readers.{fault_of}
 abbrev pub KeyFault : Type 0
 KeyFault = List (List ℕ) × Fault
 
-abbrev pub key_fault : FieldRefusal → KeyFault
+abbrev pub key_fault : FieldError → KeyFault
 key_fault e = (map (λ n. n.now) (names_of e), fault_of e.refusal)
 
 -- a field of this name

@@ -10,7 +10,7 @@ ghost use Rattle.x509_keys.specs.OtherKeys.{bit_string, ec_of, ec_private_key, e
 
 use der_base::any::Any;
 use der_base::error::BerError;
-use der_cursor::{Cursor, FieldRefusal, Named, Refusal};
+use der_cursor::{Cursor, FieldError, Named, ReadError};
 use der_values::BitString;
 
 /// The only version.
@@ -30,7 +30,7 @@ pub struct EcPrivateKey<'a> {
 
 /// Reads a private key of an elliptic curve by DER. Trailing data is an error. Returns the first error, with its field.
 /// Incomplete iff the input ends within the key.
-pub fn read_ec_private_key(octets: &[u8]) -> Result<EcPrivateKey<'_>, FieldRefusal>
+pub fn read_ec_private_key(octets: &[u8]) -> Result<EcPrivateKey<'_>, FieldError>
     ensures { ReadsExactly key_fault ec_of whole_ec_key octets.now result }
 {
     let mut input = Cursor::new(octets);
@@ -39,7 +39,7 @@ pub fn read_ec_private_key(octets: &[u8]) -> Result<EcPrivateKey<'_>, FieldRefus
     Ok(key)
 }
 
-fn read_fields<'a>(input: &mut Cursor<'a>) -> Result<EcPrivateKey<'a>, FieldRefusal>
+fn read_fields<'a>(input: &mut Cursor<'a>) -> Result<EcPrivateKey<'a>, FieldError>
     ensures { ReadsBy key_fault ec_of ec_private_key input.old result input.new }
 {
     let mut fields = input.open_sequence().named("ECPrivateKey")?;
@@ -57,7 +57,7 @@ fn read_fields<'a>(input: &mut Cursor<'a>) -> Result<EcPrivateKey<'a>, FieldRefu
 }
 
 /// Reads the version, which is 1.
-fn read_version(fields: &mut Cursor<'_>) -> Result<u32, Refusal<BerError>>
+fn read_version(fields: &mut Cursor<'_>) -> Result<u32, ReadError<BerError>>
     ensures { ReadsBy fault_of pos ec_version fields.old result fields.new }
 {
     let before = *fields;
@@ -68,7 +68,7 @@ fn read_version(fields: &mut Cursor<'_>) -> Result<u32, Refusal<BerError>>
     Ok(version)
 }
 
-fn read_parameters<'a>(fields: &mut Cursor<'a>) -> Result<Option<Any<'a>>, Refusal<BerError>>
+fn read_parameters<'a>(fields: &mut Cursor<'a>) -> Result<Option<Any<'a>>, ReadError<BerError>>
     ensures { ReadsBy fault_of (option_map element_of) (optional_explicit 0 any) fields.old result fields.new }
 {
     match fields.open_tagged(0)? {
@@ -77,7 +77,7 @@ fn read_parameters<'a>(fields: &mut Cursor<'a>) -> Result<Option<Any<'a>>, Refus
     }
 }
 
-fn read_last_element<'a>(mut field: Cursor<'a>) -> Result<Any<'a>, Refusal<BerError>>
+fn read_last_element<'a>(mut field: Cursor<'a>) -> Result<Any<'a>, ReadError<BerError>>
     ensures { ReadsToEnd fault_of element_of (alone any) field.entry result }
 {
     let element = field.any()?;
@@ -85,7 +85,9 @@ fn read_last_element<'a>(mut field: Cursor<'a>) -> Result<Any<'a>, Refusal<BerEr
     Ok(element)
 }
 
-fn read_public_key<'a>(fields: &mut Cursor<'a>) -> Result<Option<BitString<'a>>, Refusal<BerError>>
+fn read_public_key<'a>(
+    fields: &mut Cursor<'a>,
+) -> Result<Option<BitString<'a>>, ReadError<BerError>>
     ensures { ReadsBy fault_of (option_map bits_of) (optional_explicit 1 bit_string) fields.old result fields.new }
 {
     match fields.open_tagged(1)? {
@@ -94,7 +96,7 @@ fn read_public_key<'a>(fields: &mut Cursor<'a>) -> Result<Option<BitString<'a>>,
     }
 }
 
-fn read_last_bits<'a>(mut field: Cursor<'a>) -> Result<BitString<'a>, Refusal<BerError>>
+fn read_last_bits<'a>(mut field: Cursor<'a>) -> Result<BitString<'a>, ReadError<BerError>>
     ensures { ReadsToEnd fault_of bits_of (alone bit_string) field.entry result }
 {
     let bits = field.bits()?;

@@ -4,7 +4,7 @@ ghost use Rattle.x509_keys.specs.Fields.{key_fault};
 ghost use Rattle.x509_keys.specs.OtherKeys.{encrypted_of, encrypted_private_key_info, whole_encrypted_key};
 
 use crate::key::{Algorithm, read_algorithm};
-use der_cursor::{Cursor, FieldRefusal, Named};
+use der_cursor::{Cursor, FieldError, Named};
 
 /// An encrypted private key. Octets are slices of the input.
 #[derive(Drop)]
@@ -16,7 +16,7 @@ pub struct EncryptedPrivateKeyInfo<'a> {
 
 /// Reads an encrypted private key by DER. Trailing data is an error. Returns the first error, with its field.
 /// Incomplete iff the input ends within the key.
-pub fn read_encrypted_key(octets: &[u8]) -> Result<EncryptedPrivateKeyInfo<'_>, FieldRefusal>
+pub fn read_encrypted_key(octets: &[u8]) -> Result<EncryptedPrivateKeyInfo<'_>, FieldError>
     ensures { ReadsExactly key_fault encrypted_of whole_encrypted_key octets.now result }
 {
     let mut input = Cursor::new(octets);
@@ -25,7 +25,7 @@ pub fn read_encrypted_key(octets: &[u8]) -> Result<EncryptedPrivateKeyInfo<'_>, 
     Ok(key)
 }
 
-fn read_fields<'a>(input: &mut Cursor<'a>) -> Result<EncryptedPrivateKeyInfo<'a>, FieldRefusal>
+fn read_fields<'a>(input: &mut Cursor<'a>) -> Result<EncryptedPrivateKeyInfo<'a>, FieldError>
     ensures { ReadsBy key_fault encrypted_of encrypted_private_key_info input.old result input.new }
 {
     let mut fields = input.open_sequence().named("EncryptedPrivateKeyInfo")?;

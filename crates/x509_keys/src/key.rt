@@ -12,7 +12,7 @@ ghost use Rattle.x509_keys.specs.Keys.{version, version_with, whole_key};
 
 use der_base::any::Any;
 use der_base::error::BerError;
-use der_cursor::{Cursor, FieldRefusal, Named, Refusal};
+use der_cursor::{Cursor, FieldError, Named, ReadError};
 use der_values::{BitString, ObjectIdentifier};
 
 /// A private key. Octets are slices of the input.
@@ -39,7 +39,7 @@ pub struct Algorithm<'a> {
 /// Reads a private key by DER. Trailing data is an error. The version is 1 if there is a public key, else 0 (RFC 5958
 /// 2). Returns the first error, with its field; the version is checked last. Incomplete iff the input ends within the
 /// key.
-pub fn read_private_key(octets: &[u8]) -> Result<PrivateKeyInfo<'_>, FieldRefusal>
+pub fn read_private_key(octets: &[u8]) -> Result<PrivateKeyInfo<'_>, FieldError>
     ensures { ReadsExactly key_fault key_of whole_key octets.now result }
 {
     let mut input = Cursor::new(octets);
@@ -48,7 +48,7 @@ pub fn read_private_key(octets: &[u8]) -> Result<PrivateKeyInfo<'_>, FieldRefusa
     Ok(key)
 }
 
-fn read_fields<'a>(input: &mut Cursor<'a>) -> Result<PrivateKeyInfo<'a>, FieldRefusal>
+fn read_fields<'a>(input: &mut Cursor<'a>) -> Result<PrivateKeyInfo<'a>, FieldError>
     ensures { ReadsBy key_fault key_of private_key_info input.old result input.new }
 {
     let mut fields = input.open_sequence().named("PrivateKeyInfo")?;
@@ -79,7 +79,7 @@ pub(crate) fn version_of(further: bool) -> u32
 }
 
 /// Reads a version, which is 0 or 1.
-pub(crate) fn read_version(fields: &mut Cursor<'_>) -> Result<u32, Refusal<BerError>>
+pub(crate) fn read_version(fields: &mut Cursor<'_>) -> Result<u32, ReadError<BerError>>
     ensures { ReadsBy fault_of pos version fields.old result fields.new }
 {
     let before = *fields;
@@ -93,7 +93,7 @@ pub(crate) fn read_version(fields: &mut Cursor<'_>) -> Result<u32, Refusal<BerEr
 /// Reads an algorithm and its parameters.
 pub(crate) fn read_algorithm<'a>(
     fields: &mut Cursor<'a>,
-) -> Result<Algorithm<'a>, Refusal<BerError>>
+) -> Result<Algorithm<'a>, ReadError<BerError>>
     ensures { ReadsBy fault_of algorithm_of algorithm_identifier fields.old result fields.new }
 {
     let mut inside = fields.open_sequence()?;
@@ -106,14 +106,16 @@ pub(crate) fn read_algorithm<'a>(
     })
 }
 
-fn read_public_key<'a>(fields: &mut Cursor<'a>) -> Result<Option<BitString<'a>>, Refusal<BerError>>
+fn read_public_key<'a>(
+    fields: &mut Cursor<'a>,
+) -> Result<Option<BitString<'a>>, ReadError<BerError>>
     ensures { ReadsBy fault_of (option_map bits_of) (optional_implicit 1 (bit_strings Rules.Der))
         fields.old result fields.new }
 {
     fields.implicit(1).optional_bits()
 }
 
-fn read_parameters<'a>(inside: &mut Cursor<'a>) -> Result<Option<Any<'a>>, Refusal<BerError>>
+fn read_parameters<'a>(inside: &mut Cursor<'a>) -> Result<Option<Any<'a>>, ReadError<BerError>>
     ensures { ReadsBy fault_of (option_map element_of) (optional (λ i. i ≢ []) any) inside.old result inside.new }
 {
     if inside.is_empty() {

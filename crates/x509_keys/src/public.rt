@@ -5,7 +5,7 @@ ghost use Rattle.x509_keys.specs.OtherKeys.{key_info_of, rsa_public_key, rsa_pub
 ghost use Rattle.x509_keys.specs.OtherKeys.{whole_public_key, whole_rsa_public_key};
 
 use crate::key::{Algorithm, read_algorithm};
-use der_cursor::{Cursor, FieldRefusal, Named};
+use der_cursor::{Cursor, FieldError, Named};
 use der_values::BitString;
 
 /// A public key. Octets are slices of the input.
@@ -25,7 +25,7 @@ pub struct RsaPublicKey<'a> {
 
 /// Reads a public key by DER. Trailing data is an error. Returns the first error, with its field. Incomplete iff the
 /// input ends within the key.
-pub fn read_public_key(octets: &[u8]) -> Result<SubjectPublicKeyInfo<'_>, FieldRefusal>
+pub fn read_public_key(octets: &[u8]) -> Result<SubjectPublicKeyInfo<'_>, FieldError>
     ensures { ReadsExactly key_fault key_info_of whole_public_key octets.now result }
 {
     let mut input = Cursor::new(octets);
@@ -34,7 +34,7 @@ pub fn read_public_key(octets: &[u8]) -> Result<SubjectPublicKeyInfo<'_>, FieldR
     Ok(key)
 }
 
-fn read_fields<'a>(input: &mut Cursor<'a>) -> Result<SubjectPublicKeyInfo<'a>, FieldRefusal>
+fn read_fields<'a>(input: &mut Cursor<'a>) -> Result<SubjectPublicKeyInfo<'a>, FieldError>
     ensures { ReadsBy key_fault key_info_of subject_public_key_info input.old result input.new }
 {
     let mut fields = input.open_sequence().named("SubjectPublicKeyInfo")?;
@@ -48,7 +48,7 @@ fn read_fields<'a>(input: &mut Cursor<'a>) -> Result<SubjectPublicKeyInfo<'a>, F
 }
 
 /// Reads an RSA public key by DER, as `read_public_key`.
-pub fn read_rsa_public_key(octets: &[u8]) -> Result<RsaPublicKey<'_>, FieldRefusal>
+pub fn read_rsa_public_key(octets: &[u8]) -> Result<RsaPublicKey<'_>, FieldError>
     ensures { ReadsExactly key_fault rsa_public_of whole_rsa_public_key octets.now result }
 {
     let mut input = Cursor::new(octets);
@@ -57,7 +57,7 @@ pub fn read_rsa_public_key(octets: &[u8]) -> Result<RsaPublicKey<'_>, FieldRefus
     Ok(key)
 }
 
-fn read_numbers<'a>(input: &mut Cursor<'a>) -> Result<RsaPublicKey<'a>, FieldRefusal>
+fn read_numbers<'a>(input: &mut Cursor<'a>) -> Result<RsaPublicKey<'a>, FieldError>
     ensures { ReadsBy key_fault rsa_public_of rsa_public_key input.old result input.new }
 {
     let mut numbers = input.open_sequence().named("RSAPublicKey")?;

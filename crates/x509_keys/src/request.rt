@@ -13,21 +13,21 @@ mod attribute;
 pub mod attribute_identifiers;
 mod challenge_password;
 mod display;
+mod error;
 mod extension_request;
 pub mod laws;
 mod lists;
-mod refusal;
 pub mod writer;
 
 use crate::request::attribute::read_attributes;
 pub use attribute::{Attribute, Attributes, Values};
 pub use challenge_password::read_challenge_password;
 use der_base::error::BerError;
-use der_cursor::{Cursor, Refusal};
+use der_cursor::{Cursor, ReadError};
 use der_values::BitString;
+pub use error::{CertificationRequestError, Field};
 pub use extension_request::read_extension_request;
 pub use lists::{AttributeIter, ValueIter};
-pub use refusal::{Field, RequestRefusal};
 use x509::parts::{read_algorithm, read_key_info, read_name};
 use x509::{AlgorithmIdentifier, Name, SubjectPublicKeyInfo};
 
@@ -53,7 +53,7 @@ pub struct CertificationRequestInfo<'a> {
 }
 
 /// Reads a CSR; trailing data is an error. The signature isn't verified.
-pub fn read_request(octets: &[u8]) -> Result<CertificationRequest<'_>, RequestRefusal>
+pub fn read_request(octets: &[u8]) -> Result<CertificationRequest<'_>, CertificationRequestError>
     ensures { ReadsExactly field_fault request_of whole_request octets.now result }
 {
     let mut input = Cursor::new(octets);
@@ -63,7 +63,9 @@ pub fn read_request(octets: &[u8]) -> Result<CertificationRequest<'_>, RequestRe
 }
 
 /// Reads a CertificationRequest.
-fn read_parts<'a>(input: &mut Cursor<'a>) -> Result<CertificationRequest<'a>, RequestRefusal>
+fn read_parts<'a>(
+    input: &mut Cursor<'a>,
+) -> Result<CertificationRequest<'a>, CertificationRequestError>
     ensures { ReadsBy field_fault request_of request input.old result input.new }
 {
     let mut parts = Field::CertificationRequest.of(input.open_sequence())?;
@@ -82,7 +84,9 @@ fn read_parts<'a>(input: &mut Cursor<'a>) -> Result<CertificationRequest<'a>, Re
 }
 
 /// Reads a CertificationRequestInfo.
-fn read_info<'a>(parts: &mut Cursor<'a>) -> Result<CertificationRequestInfo<'a>, RequestRefusal>
+fn read_info<'a>(
+    parts: &mut Cursor<'a>,
+) -> Result<CertificationRequestInfo<'a>, CertificationRequestError>
     ensures reads { ReadsBy field_fault info_of request_info parts.old result parts.new }
     ensures shorter { OnOk result (IsShorter parts.old parts.new) }
 {
@@ -100,7 +104,7 @@ fn read_info<'a>(parts: &mut Cursor<'a>) -> Result<CertificationRequestInfo<'a>,
 }
 
 /// Reads a version, which is 0.
-fn read_version(fields: &mut Cursor<'_>) -> Result<(), Refusal<BerError>>
+fn read_version(fields: &mut Cursor<'_>) -> Result<(), ReadError<BerError>>
     ensures { ReadsBy fault_of (λ u. u) version fields.old result fields.new }
 {
     let before = *fields;

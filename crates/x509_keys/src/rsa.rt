@@ -12,7 +12,7 @@ ghost use Rattle.x509_keys.specs.Keys.{rsa_private_key, whole_rsa_key};
 use crate::key::{read_version, version_of};
 use der_base::error::BerError;
 use der_base::header::{Class, Tag};
-use der_cursor::{Cursor, FieldRefusal, Named, Refusal};
+use der_cursor::{Cursor, FieldError, Named, ReadError};
 
 /// An RSA private key. Each number is the content octets of its INTEGER, in two's complement (X.690 8.3.3).
 #[derive(Drop)]
@@ -51,7 +51,7 @@ pub(crate) struct RsaPrimes<'a> {
 
 /// Reads an RSA private key by DER. Trailing data is an error. The version is 1 if there are further primes, else 0.
 /// Returns the first error, with its field; the version is checked last. Incomplete iff the input ends within the key.
-pub fn read_rsa_private_key(octets: &[u8]) -> Result<RsaPrivateKey<'_>, FieldRefusal>
+pub fn read_rsa_private_key(octets: &[u8]) -> Result<RsaPrivateKey<'_>, FieldError>
     ensures { ReadsExactly key_fault rsa_of whole_rsa_key octets.now result }
 {
     let mut input = Cursor::new(octets);
@@ -60,7 +60,7 @@ pub fn read_rsa_private_key(octets: &[u8]) -> Result<RsaPrivateKey<'_>, FieldRef
     Ok(key)
 }
 
-fn read_numbers<'a>(input: &mut Cursor<'a>) -> Result<RsaPrivateKey<'a>, FieldRefusal>
+fn read_numbers<'a>(input: &mut Cursor<'a>) -> Result<RsaPrivateKey<'a>, FieldError>
     ensures { ReadsBy key_fault rsa_of rsa_private_key input.old result input.new }
 {
     let mut numbers = input.open_sequence().named("RSAPrivateKey")?;
@@ -88,7 +88,7 @@ fn read_numbers<'a>(input: &mut Cursor<'a>) -> Result<RsaPrivateKey<'a>, FieldRe
 }
 
 /// Reads the modulus and the exponents of the key.
-fn read_exponents<'a>(numbers: &mut Cursor<'a>) -> Result<RsaExponents<'a>, FieldRefusal>
+fn read_exponents<'a>(numbers: &mut Cursor<'a>) -> Result<RsaExponents<'a>, FieldError>
     ensures { ReadsBy key_fault rsa_exponents_of (rsa_exponents (λ x. done x)) numbers.old result numbers.new }
 {
     let modulus = numbers.integer().named("modulus")?;
@@ -102,7 +102,7 @@ fn read_exponents<'a>(numbers: &mut Cursor<'a>) -> Result<RsaExponents<'a>, Fiel
 }
 
 /// Reads the first two primes, and the numbers computed from them.
-fn read_primes<'a>(numbers: &mut Cursor<'a>) -> Result<RsaPrimes<'a>, FieldRefusal>
+fn read_primes<'a>(numbers: &mut Cursor<'a>) -> Result<RsaPrimes<'a>, FieldError>
     ensures { ReadsBy key_fault rsa_primes_of (rsa_primes (λ x. done x)) numbers.old result numbers.new }
 {
     let prime1 = numbers.integer().named("prime1")?;
@@ -119,7 +119,9 @@ fn read_primes<'a>(numbers: &mut Cursor<'a>) -> Result<RsaPrimes<'a>, FieldRefus
     })
 }
 
-fn open_other_primes<'a>(numbers: &mut Cursor<'a>) -> Result<Option<Cursor<'a>>, Refusal<BerError>>
+fn open_other_primes<'a>(
+    numbers: &mut Cursor<'a>,
+) -> Result<Option<Cursor<'a>>, ReadError<BerError>>
     ensures { ReadsBy fault_of (option_map octets_left) (optional (IsNext Class.Universal 16) sequence)
         numbers.old result numbers.new }
 {

@@ -177,7 +177,3 @@ pub record Marks (P : AttributeKind → Type 0) (old new : List Bool) : Type 0 w
 pub record AreBadKinds (c : Signed) (bad : List Bool) : Type 0 where
   pub all : length bad ≡ kind_count
   pub each : (k : AttributeKind) → IsMarked bad k ↔ BreaksAttribute k c
-
--- issuer and subject are the same octets
-abbrev pub IsSelfIssued : Signed → Type 0
-IsSelfIssued c = c.tbs_certificate.issuer ≡ c.tbs_certificate.subject

@@ -7,7 +7,7 @@ ghost use Rattle.x509.specs.Lists.{Somewhere};
 ghost use Rattle.x509_rule_facts.specs.Attributes.{AreBadKinds, FitsKind, HasBadAttribute, HasKind, HasMistyped};
 ghost use Rattle.x509_rule_facts.specs.Attributes.{IsBad, IsMarked, IsMistyped, IsOfKind, IsString, Marks};
 ghost use Rattle.x509_rule_facts.specs.Attributes.{begins_character, character_count, kind_count, kind_number};
-ghost use Rattle.x509_rule_facts.specs.Attributes.{kind_octets, least_of, most_of, string_of, IsSelfIssued};
+ghost use Rattle.x509_rule_facts.specs.Attributes.{kind_octets, least_of, most_of, string_of};
 
 use crate::identified::attribute_kind;
 use crate::identifier::has_octets;
@@ -204,19 +204,11 @@ pub fn bad_kinds(certificate: &Certificate<'_>) -> [bool; ATTRIBUTE_KINDS]
 {
     let mut bad = [false; ATTRIBUTE_KINDS];
     mark_name(&mut bad, certificate.tbs_certificate.issuer);
-    if is_self_issued(certificate) {
+    if certificate.is_self_issued() {
         return bad;
     }
     mark_name(&mut bad, certificate.tbs_certificate.subject);
     bad
-}
-
-/// Returns whether issuer and subject have the same octets.
-#[inline]
-pub fn is_self_issued(certificate: &Certificate<'_>) -> bool
-    ensures { IsTrue result ↔ IsSelfIssued (certificate_of certificate.now) }
-{
-    certificate.tbs_certificate.issuer.octets == certificate.tbs_certificate.subject.octets
 }
 
 /// Marks the kinds of which the name has an attribute with a value of another type.

@@ -2,6 +2,7 @@
 use Rattle.std.specs.Prelude.{◌≡◌, ◌≢◌, ℕ, ◌⊎◌, None, List, []}
 use Rattle.x509.specs.Certificates.{ExtensionValue, Signed, extension}
 use Rattle.x509.specs.Lists.{Somewhere}
+use Rattle.x509.specs.Rules.{IsSelfIssued}
 use Rattle.x509_rule_facts.specs.declared.attributes.AttributeKind.TheVariants as kind
 use Rattle.x509_value_rules.specs.declared.facts.Fact.TheVariants.{Present, Critical, NotCritical}
 use Rattle.der_extensions.specs.declared.known.KnownExtension.{KnownExtension}
@@ -11,7 +12,7 @@ use Rattle.x509_rule_facts.specs.declared.value_facts.ValueFact.TheVariants.{Key
 use Rattle.x509_rule_facts.specs.declared.value_facts.ValueFact.TheVariants.{PathLength}
 use Rattle.x509_rules.specs.declared.whole.WholeRule.{WholeRule}
 use Rattle.x509_rules.specs.declared.whole.WholeRule.TheVariants as rule
-use Rattle.x509_rule_facts.specs.Attributes.{HasKind, IsSelfIssued}
+use Rattle.x509_rule_facts.specs.Attributes.{HasKind}
 use Rattle.x509_value_rules.specs.Facts.{Has, IsAuthority, MaySignCertificates, Tells}
 use Rattle.der_extensions.specs.Known.{octets_of}
 use Rattle.x509_rules.specs.Issuers.{PointsTo}

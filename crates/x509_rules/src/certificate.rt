@@ -5,7 +5,7 @@ ghost use Rattle.x509_rules.specs.Examined.{IsExamined, signed_of};
 ghost use Rattle.x509_value_rules.specs.Facts.{IsAuthority};
 ghost use Rattle.x509_rules.specs.Rules.{Breaks};
 
-use crate::examined::{Examined, breaks_attribute, has, unexamined};
+use crate::examined::{Examined, breaks_attribute, breaks_value, has, unexamined};
 use crate::whole::{WholeRule, breaks_whole};
 use der_extensions::KnownExtension;
 use x509::{Certificate, Rule as FieldRule};
@@ -556,7 +556,7 @@ pub fn breaks_examined(rule: Rule, certificate: &Examined<'_, '_>) -> bool
         Rule::Attribute(kind) => breaks_attribute(kind, certificate),
         Rule::Critical(known) => has(certificate, known, Fact::NotCritical),
         Rule::NotCritical(known) => has(certificate, known, Fact::Critical),
-        Rule::Value(known, rule) => has(certificate, known, Fact::Breaks(rule)),
+        Rule::Value(known, rule) => breaks_value(certificate, known, rule),
         Rule::Whole(rule) => breaks_whole(rule, certificate),
     }
 }

@@ -3,6 +3,7 @@ ghost use Rattle.std.specs.Prelude.{◌≡◌, ◌↔◌, IsTrue};
 ghost use Rattle.x509.specs.Certificates.{certificate_of};
 ghost use Rattle.x509_rule_facts.specs.Attributes.{BreaksAttribute};
 ghost use Rattle.x509_rules.specs.Examined.{IsExamined, signed_of};
+ghost use Rattle.x509_value_rules.specs.declared.facts.Fact.{Fact};
 ghost use Rattle.x509_value_rules.specs.Facts.{Has};
 
 use der_extensions::KnownExtension;
@@ -10,6 +11,7 @@ use x509::Certificate;
 use x509_rule_facts::attributes::{ATTRIBUTE_KINDS, AttributeKind, bad_kinds, is_marked};
 use x509_value_rules::facts::Fact;
 use x509_value_rules::sorted::{FEW_QUESTIONS, SortedExtensions};
+use x509_value_rules::value_rules::ValueRule;
 
 /// A certificate, with what was read of it.
 #[derive(Drop)]
@@ -73,6 +75,20 @@ pub(crate) fn has(certificate: &Examined<'_, '_>, known: KnownExtension, fact: F
     ensures { IsTrue result ↔ Has known fact (signed_of certificate.now) }
 {
     certificate.extensions.show(known, fact)
+}
+
+/// Returns whether an extension with the identifier of `known` has a value that breaks the rule.
+#[inline(always)]
+pub(crate) fn breaks_value(
+    certificate: &Examined<'_, '_>,
+    known: KnownExtension,
+    rule: ValueRule,
+) -> bool
+    requires { IsExamined certificate.now }
+    ensures { IsTrue result ↔ Has known (Fact.Breaks rule) (signed_of certificate.now) }
+{
+    // Most extensions aren't there. This is told before the fact is made.
+    certificate.extensions.may_have(known) && has(certificate, known, Fact::Breaks(rule))
 }
 
 /// Returns whether the issuer or the subject has an attribute of the kind with a value of another type.

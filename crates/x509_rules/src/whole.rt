@@ -9,7 +9,7 @@ use crate::examined::{Examined, has};
 use crate::issuers::shows_issuer;
 use der_extensions::KnownExtension;
 use x509::Certificate;
-use x509_rule_facts::attributes::{AttributeKind, has_kind, is_self_issued};
+use x509_rule_facts::attributes::{AttributeKind, has_kind};
 use x509_rule_facts::value_facts::ValueFact;
 use x509_value_rules::facts::Fact;
 use x509_value_rules::points::PointRule;
@@ -142,7 +142,7 @@ fn breaks_key_identifier_of_issuer(certificate: &Examined<'_, '_>) -> bool
     requires { IsExamined certificate.now }
     ensures { IsTrue result ↔ BreaksWhole WholeRule.KeyIdentifierOfIssuer (signed_of certificate.now) }
 {
-    !tells(certificate, ValueFact::KeyIdentifier) && !is_self_issued(certificate.signed)
+    !tells(certificate, ValueFact::KeyIdentifier) && !certificate.signed.is_self_issued()
 }
 
 fn breaks_key_identifier_of_authority(certificate: &Examined<'_, '_>) -> bool

@@ -10,7 +10,7 @@ ghost use Rattle.x509_value_rules.specs.Parties.{IsNoParty, IsParty, party_of};
 use der_base::any::Any;
 use der_base::error::BerError;
 use der_base::header::{Class, Tag};
-use der_cursor::{Cursor, Refusal};
+use der_cursor::{Cursor, ReadError};
 use der_extensions::GeneralName;
 use x509_rule_facts::attributes::{StringKind, is_string};
 
@@ -42,7 +42,7 @@ fn is_party(content: &[u8]) -> bool
 }
 
 /// Reads the content octets of an EDIPartyName.
-fn read_party(content: &[u8]) -> Result<EdiPartyName<'_>, Refusal<BerError>>
+fn read_party(content: &[u8]) -> Result<EdiPartyName<'_>, ReadError<BerError>>
     ensures { ReadsWhole (PartyFormat Rules.Der content.now) party_of Never result }
 {
     let mut fields = Cursor::new(content);
@@ -56,7 +56,7 @@ fn read_party(content: &[u8]) -> Result<EdiPartyName<'_>, Refusal<BerError>>
 }
 
 /// Reads a nameAssigner, if its tag is next.
-fn read_assigner<'a>(fields: &mut Cursor<'a>) -> Result<Option<Any<'a>>, Refusal<BerError>>
+fn read_assigner<'a>(fields: &mut Cursor<'a>) -> Result<Option<Any<'a>>, ReadError<BerError>>
     ensures { ReadsField (Optional (Explicit 0 DirectoryString)) (λ x. option_map element_of x) Never
         fields.old result fields.new }
 {
@@ -71,7 +71,7 @@ fn read_assigner<'a>(fields: &mut Cursor<'a>) -> Result<Option<Any<'a>>, Refusal
 fn read_tagged_string<'a>(
     fields: &mut Cursor<'a>,
     number: u32,
-) -> Result<Any<'a>, Refusal<BerError>>
+) -> Result<Any<'a>, ReadError<BerError>>
     ensures { ReadsField (Required (Explicit number DirectoryString)) element_of Never
         fields.old result fields.new }
 {
@@ -82,7 +82,7 @@ fn read_tagged_string<'a>(
 }
 
 /// Reads a DirectoryString.
-fn read_string<'a>(fields: &mut Cursor<'a>) -> Result<Any<'a>, Refusal<BerError>>
+fn read_string<'a>(fields: &mut Cursor<'a>) -> Result<Any<'a>, ReadError<BerError>>
     ensures { ReadsField DirectoryString element_of Never fields.old result fields.new }
 {
     let before = *fields;

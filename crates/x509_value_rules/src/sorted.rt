@@ -1,5 +1,6 @@
 //! Extensions by identifier, so that rules about them needn't walk the list.
-ghost use Rattle.std.specs.Prelude.{◌≡◌, ◌↔◌, IsTrue, length};
+ghost use Rattle.std.specs.Prelude.{◌≡◌, ◌⊎◌, ◌↔◌, IsTrue, length};
+ghost use Rattle.x509_value_rules.specs.declared.facts.Fact.{Fact};
 ghost use Rattle.x509_value_rules.specs.Facts.{Holds, Shows};
 ghost use Rattle.der_extensions.specs.Known.{known_count};
 ghost use Rattle.x509_value_rules.specs.Readings.{IsReadingOf};
@@ -48,6 +49,15 @@ impl<'a> SortedExtensions<'a> {
     {
         let slots = [Slot::Unsorted; KNOWN_EXTENSIONS];
         SortedExtensions { extensions, slots }
+    }
+
+    /// Returns whether there may be an extension with the identifier of `known`. If there is none, it shows no fact.
+    #[inline(always)]
+    pub fn may_have(&self, known: KnownExtension) -> bool
+        requires { IsSorted self.now }
+        ensures { IsTrue result ⊎ ((fact : Fact) → ¬ Shows known fact self.now.extensions.octets.now) }
+    {
+        !matches!(self.slots[known.number()], Slot::Absent)
     }
 
     /// Returns whether an extension with the identifier of `known` shows the fact.

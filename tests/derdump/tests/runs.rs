@@ -4,7 +4,7 @@ use crate::fault::Fault;
 use crate::run;
 use crate::sink::Sink;
 use crate::source::Source;
-use der_parser::cursor::Refusal;
+use der_parser::cursor::ReadError;
 use der_parser::error::{BerError, Err as Refused, Needed};
 use std::alloc::Global;
 use std::env::{Env, FillError};
@@ -576,7 +576,7 @@ fn a_refusal_has_a_text(rt: HostRuntime) -> Result<(), Fail> {
     ] {
         let told = format!(in rt.alloc();
             "{}",
-            Fault::Element(Refusal {
+            Fault::Element(ReadError {
                 offset: 7,
                 list_end: None,
                 reason

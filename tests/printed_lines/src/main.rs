@@ -1,10 +1,11 @@
 //! Prints lines of what it reads of its standard input. Stored runs have the lines that others print of the same. The
-//! first argument says what is printed: `certificates`, `lists`, `fields`, `field_names` or `messages`. The module of
-//! that name says more.
+//! first argument says what is printed: `certificates`, `lists`, `fields`, `field_names`, `json` or `messages`. The module
+//! of that name says more.
 
 mod certificates;
 mod field_names;
 mod fields;
+mod json;
 mod lists;
 mod messages;
 
@@ -19,6 +20,7 @@ fn main(rt: HostRuntime) -> Result<ExitCode> {
         "lists" => lists::print_input(&rt)?,
         "fields" => fields::print_input(&rt)?,
         "field_names" => field_names::print_input(&rt)?,
+        "json" => json::print_input(&rt)?,
         "messages" => return messages::print_input(&rt),
         other => bail!("{other} is no kind of lines"),
     }

@@ -1,107 +1,110 @@
-//! The names that types of modules give elements, beside those of der_known, and what modules become.
+//! The types of the modules of asn1_types beside those of der_known, and modules with damage.
 //!
-//! The arguments are files of modules. A line of input has the name of a type, and the octets behind a semicolon. For
-//! each type that a module has, a line of output has the number of inputs, and how many elements the module names
-//! otherwise, or not at all. Names are compared in any case, since those of items are the types' in modules.
+//! The modules are the files here that end in `.asn1`. With no argument each type of der_known is compared with those
+//! of its name. Lines of input are rows: what differs, and why. What differs and has no row is printed, and each row
+//! that holds no longer. With an argument so many damaged modules are read.
 
 use anyhow::{Context, Result};
 use asn1_types::Types;
-use der_elements::{Rules, Walk};
 use der_known::KnownTypes;
-use der_schema::{Namer, Schema};
-use std::collections::BTreeMap;
+use std::collections::{BTreeMap, BTreeSet};
 use std::env;
 use std::fs;
 use std::io::Read;
+use std::process::ExitCode;
 
 #[cfg(test)]
 mod damage;
+mod damaged;
 #[cfg(test)]
 mod errors;
+mod graphs;
 #[cfg(test)]
 mod shapes;
 #[cfg(test)]
 mod texts;
+mod titles;
+mod words;
 
-/// How many inputs of a type there are, and elements of them.
-#[derive(Clone, Copy)]
-struct Counts {
-    inputs: usize,
-    same: usize,
-    others: usize,
-    /// A name by the module, and another one by der_known.
-    sample: (&'static str, &'static str),
+use crate::damaged::{Outcomes, read_damaged};
+use crate::graphs::Comparison;
+
+fn main(rt: HostRuntime) -> Result<ExitCode> {
+    let files = module_files(&rt)?;
+    let mut modules: Vec<&[u8]> = Vec::new(rt.alloc());
+    for file in &files {
+        modules.push(file)?;
+    }
+    match env::args(&rt)?.nth(1) {
+        Some(count) => print_damaged(&rt, &modules, count.parse()?),
+        None => print_differences(&rt, &modules),
+    }
 }
 
-/// The names of elements that are ANY in a module. An identifier gives them other names in der_known.
-const ANY_ELEMENTS: &[&str] = &["parameters", "AttributeValue"];
+/// Reads so many damaged modules. Some have to be read, and some to have errors, all in the text.
+fn print_damaged(rt: &HostRuntime, modules: &[&[u8]], count: u64) -> Result<ExitCode> {
+    let Outcomes { read, errors, misplaced } = read_damaged(rt.alloc(), modules, count)?;
+    if read == 0 || errors == 0 || misplaced > 0 {
+        println!(rt; "{read} are read, {errors} have an error, {misplaced} an error outside of the text")?;
+        return Ok(ExitCode::FAILURE);
+    }
+    println!(rt; "{count} damaged modules are read or have an error in the text")?;
+    Ok(ExitCode::SUCCESS)
+}
 
-const NONE: Counts = Counts { inputs: 0, same: 0, others: 0, sample: ("", "") };
-
-fn main(rt: HostRuntime) -> Result<()> {
-    let types = types_of_files(&rt)?;
+/// Compares the types of modules with those of der_known, and prints what the rows don't say.
+fn print_differences(rt: &HostRuntime, modules: &[&[u8]]) -> Result<ExitCode> {
+    let types = Types::from_texts(rt.alloc(), modules)?;
     let known = KnownTypes::new();
+    let mut comparison = Comparison::new(rt.alloc(), types, known.type_named("Certificate").context("a type")?.types)?;
+    for one in known.known() {
+        let theirs = known.type_named(one.name).context("a known type")?;
+        for component in theirs.components {
+            if comparison.compare(one.name, component)? == 0 {
+                println!(rt; "no module has {}", one.name)?;
+            }
+        }
+    }
     let mut input = String::new(rt.alloc());
     rt.stdin().read_to_string(&mut input)?;
-    let mut counts: BTreeMap<&str, Counts> = BTreeMap::new(rt.alloc());
-    for line in input.lines() {
-        let (asked, octets) = line.split_once(';').context("octets")?;
-        let (name, _) = asked.split_once(' ').unwrap_or((asked, ""));
-        let octets = hex::decode(rt.alloc(), octets)?;
-        let (Some(ours), Some(theirs)) = (types.type_named(name), known.type_named(name)) else {
-            continue;
-        };
-        let count = counts.entry(name)?.or_insert(NONE);
-        count.inputs = count.inputs.saturating_add(1);
-        compare(&octets, ours, theirs, count);
-    }
-    for (name, count) in &counts {
-        let Counts { inputs, same, others, sample } = *count;
-        let (ours, theirs) = sample;
-        match (same, others) {
-            (0, _) => println!(rt; "{name}: {inputs} inputs, no name")?,
-            (_, 0) => println!(rt; "{name}: {inputs} inputs, no other name")?,
-            _ => println!(rt; "{name}: {inputs} inputs, {others} other names, as {ours} for {theirs}")?,
+    let rows = rows_of(rt, &input)?;
+    for text in &comparison.found {
+        if !rows.contains_key(text.as_str()) {
+            println!(rt; "without a row: {text}")?;
         }
     }
-    Ok(())
+    for (what, why) in &rows {
+        if !comparison.found.contains(*what) {
+            println!(rt; "no longer so: {what}; {why}")?;
+        }
+    }
+    println!(rt; "{} types, {} rows", known.known().len(), rows.len())?;
+    Ok(ExitCode::SUCCESS)
 }
 
-/// The types of the files that the arguments name.
-fn types_of_files(rt: &HostRuntime) -> Result<Types> {
+/// What differs, and why, by the lines of a text.
+fn rows_of<'a>(rt: &HostRuntime, text: &'a str) -> Result<BTreeMap<&'a str, &'a str>> {
+    let mut rows = BTreeMap::new(rt.alloc());
+    for line in text.lines() {
+        let (what, why) = line.split_once("; ").context("a reason")?;
+        rows.insert(what, why)?;
+    }
+    Ok(rows)
+}
+
+/// The octets of each module, in the order of the files' names.
+fn module_files(rt: &HostRuntime) -> Result<Vec<Vec<u8>>> {
+    let mut names = BTreeSet::new(rt.alloc());
+    for entry in fs::read_dir(rt, ".")? {
+        let entry = entry?;
+        let name = String::from_str(rt.alloc(), entry.file_name())?;
+        if name.ends_with(".asn1") {
+            names.insert(name)?;
+        }
+    }
     let mut files = Vec::new(rt.alloc());
-    for file in env::args(rt)?.skip(1) {
-        files.push(fs::read(rt, file.as_str())?)?;
+    for name in &names {
+        files.push(fs::read(rt, name.as_str())?)?;
     }
-    let mut texts: Vec<&[u8]> = Vec::new(rt.alloc());
-    for file in &files {
-        texts.push(file)?;
-    }
-    Ok(Types::from_texts(rt.alloc(), &texts)?)
-}
-
-/// Compares the names of the elements of an input, but that of the first one, which is the type's own.
-fn compare(octets: &[u8], ours: Schema<'_>, theirs: Schema<'_>, count: &mut Counts) {
-    let mut walk = Walk::new(octets, Rules::Der, true);
-    let mut one = Namer::new(octets, ours);
-    let mut other = Namer::new(octets, theirs);
-    while let Ok(Some(element)) = walk.next_element() {
-        let (ours, theirs) = (one.name_of(&element), other.name_of(&element));
-        match (ours, theirs) {
-            (None, Some(theirs)) => add_other(count, "none", theirs.text),
-            (Some(ours), Some(theirs)) if element.depth > 0 && !ours.text.is_empty() => {
-                if ours.text.eq_ignore_ascii_case(theirs.text) {
-                    count.same = count.same.saturating_add(1);
-                } else if !ANY_ELEMENTS.contains(&ours.text) {
-                    add_other(count, ours.text, theirs.text);
-                }
-            }
-            _ => {}
-        }
-    }
-}
-
-fn add_other(count: &mut Counts, ours: &'static str, theirs: &'static str) {
-    count.others = count.others.saturating_add(1);
-    count.sample = (ours, theirs);
+    Ok(files)
 }

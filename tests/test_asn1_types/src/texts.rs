@@ -1,7 +1,8 @@
 //! Types as text, for rows of tests.
 
+use crate::words::write_tag;
 use asn1_types::Types;
-use der_schema::schema::{Class, Component, Form, Inside, Type};
+use der_schema::schema::{Component, Inside, Type};
 use std::alloc::{AllocError, Global};
 
 /// The type with a name, and what is inside it up to a depth, or the error of a text.
@@ -23,18 +24,7 @@ fn write_kind(out: &mut String, types: &Types, kind: Type, depth: usize) -> Resu
     match kind {
         Type::Any => out.push_str("ANY"),
         Type::Tagged(class, number, form, inside) => {
-            let class = match class {
-                Class::Universal => "U",
-                Class::Application => "A",
-                Class::ContextSpecific => "",
-                Class::Private => "P",
-            };
-            let form = match form {
-                Form::Primitive => "",
-                Form::Constructed => "+",
-                Form::Either => "*",
-            };
-            write!(out, "{class}{number}{form}")?;
+            write_tag(out, class, number, form)?;
             write_inside(out, types, inside, depth)
         }
         Type::Choice(alternatives) => write_list(out, types, alternatives, "<", ">", depth),

@@ -3,7 +3,7 @@
 
 use anyhow::{Result, bail};
 use der_base::error::{Err as Refused, Needed};
-use der_cursor::FieldRefusal;
+use der_cursor::FieldError;
 use messages::ldap::read_message;
 use std::alloc::Global;
 use std::io::{Read, Write};
@@ -48,7 +48,7 @@ fn print_message<W: Write>(
     alloc: Global,
     octets: &[u8],
     out: &mut W,
-) -> Result<Result<usize, FieldRefusal>> {
+) -> Result<Result<usize, FieldError>> {
     match read_message(alloc, octets) {
         Ok((rest, message)) => {
             writeln!(out, "{message}")?;
@@ -59,7 +59,7 @@ fn print_message<W: Write>(
 }
 
 /// How many octets a message that is cut short needs.
-fn missing_octets(refused: &FieldRefusal) -> Option<usize> {
+fn missing_octets(refused: &FieldError) -> Option<usize> {
     match refused.refusal.reason {
         Refused::Incomplete(Needed::Size(n)) => Some(n),
         _ => None,

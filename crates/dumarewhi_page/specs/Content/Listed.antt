@@ -1,7 +1,7 @@
 -- What is listed of the elements that a walk visits.
 use Rattle.std.specs.Prelude.{◌≡◌, ℕ, ◌⊎◌, true, List, length}
 use Rattle.der_base.specs.declared.rules.Rules.{Rules}
-use Rattle.der_elements.specs.declared.refusal.Refusal.{Refusal}
+use Rattle.der_elements.specs.declared.error.ElementError.{ElementError}
 use Rattle.der_elements.specs.declared.walk.Walk.{Walk}
 use Rattle.der_elements.specs.Visits.{Extras, Visited, Visits}
 use Rattle.der_elements.specs.Walked.{IsRefused}
@@ -17,7 +17,7 @@ all_extras = record { enters_strings = true; keeps_values = true }
 -- of the input.
 abbrev pub AreVisited : Rules → List ℕ → List Visited → PageOutcome → Type 0
 AreVisited r i vs found = ((found.refused ≡ 0) × Visits all_extras r 101 0 0 i vs)
-    ⊎ ((found.refused ≡ 1) × (w : Walk) × (f : Refusal) × IsRefused all_extras r i vs w f × (found.place ≡ f.offset)
+    ⊎ ((found.refused ≡ 1) × (w : Walk) × (f : ElementError) × IsRefused all_extras r i vs w f × (found.place ≡ f.offset)
     × (found.depth ≡ length w.opened.items))
 
 -- the rows stand for them, as far as there is room

@@ -5,7 +5,7 @@ ghost use Rattle.dumarewhi_page.specs.Content.Errors.{PutsPart, part_numbered};
 
 use crate::content::fault::Fault;
 use crate::content::room::put;
-use der_elements::{Refusal, Walk};
+use der_elements::{ElementError, Walk};
 use der_print::Limit;
 
 /// A part of an error.
@@ -38,7 +38,7 @@ pub fn part_numbered(number: u32) -> Part
 }
 
 /// Writes a part of an error. Returns the length of the text.
-pub fn put_refusal(walk: &Walk<'_>, refusal: Refusal, part: Part, text: &mut [u8]) -> usize
+pub fn put_refusal(walk: &Walk<'_>, refusal: ElementError, part: Part, text: &mut [u8]) -> usize
     ensures { PutsPart part walk.now refusal text.old text.new result }
 {
     let path = &walk.path(&refusal);

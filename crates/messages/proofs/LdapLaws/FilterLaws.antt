@@ -11,7 +11,7 @@ use Rattle.der_base.specs.declared.header.Class.TheVariants.{ContextSpecific}
 use Rattle.der_base.specs.declared.rules.Rules.{Rules}
 use Rattle.der_base.specs.Header.{number_of as header_number}
 use Rattle.der_cursor.specs.declared.cursor.Cursor.{Cursor}
-use Rattle.der_cursor.specs.declared.refusal.Refusal.{Refusal}
+use Rattle.der_cursor.specs.declared.error.ReadError.{ReadError}
 use Rattle.der_cursor.specs.Cursors.{octets_left, rules_of, EndsAt, OpensAt, ReadsAnyAt}
 use Rattle.der_cursor.specs.Formats.{As, Choice, Constructed, Content, Each, Field, Implicit, Never, NoMemory, OctetString, Only, Required, ReadsContent, ReadsField, ReadsNext, TellsNext}
 use Rattle.der_cursor.proofs.ChoiceLaws.{next_known, next_unknown}
@@ -63,11 +63,11 @@ one_place Final Final e = refl
 one_place k u e = absurd (omega (arith, e))
 
 -- the filter that is next, and the piece
-pub next_filter_is : {c d : Cursor} (e : Refusal BerError) (a : Any) (t : ℕ) (o : Option FilterKind) → ReadsAnyAt c (Ok a) d → t ≡ header_number a.header → IsFilterAt t o → TellsNext (FilterType NoFilter) c (ok_or o e)
+pub next_filter_is : {c d : Cursor} (e : ReadError BerError) (a : Any) (t : ℕ) (o : Option FilterKind) → ReadsAnyAt c (Ok a) d → t ≡ header_number a.header → IsFilterAt t o → TellsNext (FilterType NoFilter) c (ok_or o e)
 next_filter_is e a t (Some o) h q n = next_known (FilterType NoFilter) one_filter a o t h q n
 next_filter_is e a t None h q n = next_unknown (FilterType NoFilter) a t h q n
 
-pub next_place_is : {c d : Cursor} (e : Refusal BerError) (a : Any) (t : ℕ) (o : Option Place) → ReadsAnyAt c (Ok a) d → t ≡ header_number a.header → IsPlaceAt t o → TellsNext PieceType c (ok_or o e)
+pub next_place_is : {c d : Cursor} (e : ReadError BerError) (a : Any) (t : ℕ) (o : Option Place) → ReadsAnyAt c (Ok a) d → t ≡ header_number a.header → IsPlaceAt t o → TellsNext PieceType c (ok_or o e)
 next_place_is e a t (Some o) h q n = next_known PieceType one_place a o t h q n
 next_place_is e a t None h q n = next_unknown PieceType a t h q n
 
@@ -77,7 +77,7 @@ module _ {T E : Type 0} {view : T → Part} {May : E → Type 0} {old inner new 
       → ReadsField (Required (Constructed ContextSpecific (item_number k) (item_content k))) view May old result new
   item_opened o h = inside_of (item_content k) (subst (λ n. OpensAt ContextSpecific true n old (Ok inner) new) q o) h
 
-pub item_unopened : {T : Type 0} {view : T → Part} {May : Refusal BerError → Type 0} {old after new : Cursor} (k : ItemKind) {m : ℕ} (q : m ≡ item_number k) {e : Refusal BerError} {result : Result T (Refusal BerError)}
+pub item_unopened : {T : Type 0} {view : T → Part} {May : ReadError BerError → Type 0} {old after new : Cursor} (k : ItemKind) {m : ℕ} (q : m ≡ item_number k) {e : ReadError BerError} {result : Result T (ReadError BerError)}
     → OpensAt ContextSpecific true m old (Err e) after → IsErrAnd result (λ y. y ≡ e)
     → ReadsField (Required (Constructed ContextSpecific (item_number k) (item_content k))) view May old result new
 item_unopened {old = old} {after = after} k q {e = e} {result = result} o n =
@@ -85,8 +85,8 @@ item_unopened {old = old} {after = after} k q {e = e} {result = result} o n =
     rw y.1 (unopened_of (item_content k) (subst (λ m. OpensAt ContextSpecific true m old (Err e) after) q o))
 
 -- a filter of the kind that is next
-module _ (F : Field (List Part)) {c : Cursor} (k : FilterKind) (n : TellsNext (FilterType NoFilter) c (Ok k)) {T : Type 0} {view : T → List Part} {May : Refusal BerError → Type 0} where
-  pub one_of : {new : Cursor} (result : Result T (Refusal BerError)) → ReadsField (Required (FilterType F k)) view May c result new → ReadsField (OneOf F) view May c result new
+module _ (F : Field (List Part)) {c : Cursor} (k : FilterKind) (n : TellsNext (FilterType NoFilter) c (Ok k)) {T : Type 0} {view : T → List Part} {May : ReadError BerError → Type 0} where
+  pub one_of : {new : Cursor} (result : Result T (ReadError BerError)) → ReadsField (Required (FilterType F k)) view May c result new → ReadsField (OneOf F) view May c result new
   unfolding OneOf Required
   one_of (Ok x) h fresh = let r = h fresh in record {
     found = ((k, r.found.0), r.found.1);
@@ -97,11 +97,11 @@ module _ (F : Field (List Part)) {c : Cursor} (k : FilterKind) (n : TellsNext (F
     only = λ v rest z. r.only v rest (subst (λ j. Required (FilterType F j) (rules_of c) (octets_left c) v rest) (sym (n.only z.0 (z.1.0, rest) z.1.2)) z.1);
   }
 
-no_field : {T : Type 0} {view : T → List Part} {May : Refusal BerError → Type 0} {c d : Cursor} {e : Refusal BerError} → ReadsField NoFilter view May c (Err e) d
+no_field : {T : Type 0} {view : T → List Part} {May : ReadError BerError → Type 0} {c d : Cursor} {e : ReadError BerError} → ReadsField NoFilter view May c (Err e) d
 no_field fresh = record { found = tt; only = λ v rest z. absurd z }
 
 -- filters one level further in
-pub deeper : {T : Type 0} {view : T → List Part} {May : Refusal BerError → Type 0} {c d : Cursor} (n : ℕ) {m : ℕ} (result : Result T (Refusal BerError)) → n ≡ suc m
+pub deeper : {T : Type 0} {view : T → List Part} {May : ReadError BerError → Type 0} {c d : Cursor} (n : ℕ) {m : ℕ} (result : Result T (ReadError BerError)) → n ≡ suc m
     → ReadsField (OneOf (FilterField m)) view May c result d → ReadsField (FilterField n) view May c result d
 unfolding FilterField
 deeper n result q h = rw q h
@@ -112,40 +112,40 @@ filter_takes zero r i v rest z = absurd z
 filter_takes (suc n) r i v rest z = required_takes (FilterType (FilterField n) z.0) r i v rest z.1
 
 -- A reader that adds parts, and is refused.
-module _ {F : Field (List Part)} {before after : List FilterPart} {old new : Cursor} (e : Refusal BerError) {result : Result (Unit {0}) (Refusal BerError)} (n : IsErrAnd result (λ y. y ≡ e)) where
+module _ {F : Field (List Part)} {before after : List FilterPart} {old new : Cursor} (e : ReadError BerError) {result : Result (Unit {0}) (ReadError BerError)} (n : IsErrAnd result (λ y. y ≡ e)) where
   pub adds_refused : (old.implicit ≡ None → (v : List Part) (rest : List ℕ) → F (rules_of old) (octets_left old) v rest → NoMemory e) → Adds F before after old result new
   adds_refused h = let y = err_from_is_err_and result n in rw (y.1, y.2) (record { parts = []; added = tt; reads = λ fresh. record { found = tt; only = h fresh } })
 
 -- at the deepest level there is none
-pub too_deep : (n : ℕ) {before after : List FilterPart} {old new : Cursor} {e : Refusal BerError} → n ≡ 0 → Adds (FilterField n) before after old (Err e) new
+pub too_deep : (n : ℕ) {before after : List FilterPart} {old new : Cursor} {e : ReadError BerError} → n ≡ 0 → Adds (FilterField n) before after old (Err e) new
 unfolding FilterField
 too_deep n q = rw q (record { parts = []; added = tt; reads = no_field })
 
-pub adds_deeper : (n : ℕ) {m : ℕ} {before after : List FilterPart} {old new : Cursor} (k : FilterKind) {result : Result (Unit {0}) (Refusal BerError)} → n ≡ suc m → TellsNext (FilterType NoFilter) old (Ok k)
+pub adds_deeper : (n : ℕ) {m : ℕ} {before after : List FilterPart} {old new : Cursor} (k : FilterKind) {result : Result (Unit {0}) (ReadError BerError)} → n ≡ suc m → TellsNext (FilterType NoFilter) old (Ok k)
     → Adds (Required (FilterType (FilterField m) k)) before after old result new → Adds (FilterField n) before after old result new
 adds_deeper n {m = m} k {result = result} q t h = record { parts = h.parts; added = h.added; reads = deeper n result q (one_of (FilterField m) k t result h.reads) }
 
 -- no kind is next
-pub none_next : (n : ℕ) {m : ℕ} {before after : List FilterPart} {old new : Cursor} {e : Refusal BerError} {result : Result (Unit {0}) (Refusal BerError)} → n ≡ suc m → TellsNext (FilterType NoFilter) old (Err e)
+pub none_next : (n : ℕ) {m : ℕ} {before after : List FilterPart} {old new : Cursor} {e : ReadError BerError} {result : Result (Unit {0}) (ReadError BerError)} → n ≡ suc m → TellsNext (FilterType NoFilter) old (Err e)
     → IsErrAnd result (λ y. y ≡ e) → Adds (FilterField n) before after old result new
 unfolding FilterField OneOf Required
 none_next n {e = e} q t s = adds_refused e s (rw q (λ fresh v rest z. absurd (t.only z.0 (z.1.0, rest) z.1.2)))
 
 -- An item is one part.
-single : (F : Field (List Part)) (k : ItemKind) {old new : Cursor} (x : FilterPart) → ReadsField {E = Refusal BerError} (Required (ItemType k)) part_of NoMemory old (Ok x) new
-    → ReadsField {E = Refusal BerError} (Required (FilterType F (Item k))) (λ (u : Unit {0}). part_of x ∷ []) NoMemory old (Ok tt) new
+single : (F : Field (List Part)) (k : ItemKind) {old new : Cursor} (x : FilterPart) → ReadsField {E = ReadError BerError} (Required (ItemType k)) part_of NoMemory old (Ok x) new
+    → ReadsField {E = ReadError BerError} (Required (FilterType F (Item k))) (λ (u : Unit {0}). part_of x ∷ []) NoMemory old (Ok tt) new
 unfolding Required As
 single F k x h fresh = let r = h fresh in record {
   found = (let z = r.found.0 in (z.0, (part_of x, z.1, refl), z.2), r.found.1);
   only = λ v rest z. let e = r.only z.1.0 rest (z.0, z.1.1, z.2) in (ap (λ p. p ∷ []) e.0 ∙ sym z.1.2, e.1);
 }
 
-pub item_added : (F : Field (List Part)) (k : ItemKind) {before after : List FilterPart} {old new : Cursor} (x : FilterPart) (result : Result (Unit {0}) (Refusal BerError)) → ReadsField {E = Refusal BerError} (Required (ItemType k)) part_of NoMemory old (Ok x) new
+pub item_added : (F : Field (List Part)) (k : ItemKind) {before after : List FilterPart} {old new : Cursor} (x : FilterPart) (result : Result (Unit {0}) (ReadError BerError)) → ReadsField {E = ReadError BerError} (Required (ItemType k)) part_of NoMemory old (Ok x) new
     → IsAdded x before result after → Adds (Required (FilterType F (Item k))) before after old result new
 item_added F k x (Ok u) h a = record { parts = part_of x ∷ []; added = a.added; reads = λ fresh. let r = single F k x h fresh in record { found = r.found; only = r.only } }
 item_added F k x (Err e) h a = record { parts = []; added = tt; reads = λ fresh. record { found = tt; only = λ v rest z. a.memory } }
 
-pub item_refused : (F : Field (List Part)) (k : ItemKind) {before after : List FilterPart} {old new mid : Cursor} (e : Refusal BerError) {result : Result (Unit {0}) (Refusal BerError)} → ReadsField {T = FilterPart} (Required (ItemType k)) part_of NoMemory old (Err e) mid
+pub item_refused : (F : Field (List Part)) (k : ItemKind) {before after : List FilterPart} {old new mid : Cursor} (e : ReadError BerError) {result : Result (Unit {0}) (ReadError BerError)} → ReadsField {T = FilterPart} (Required (ItemType k)) part_of NoMemory old (Err e) mid
     → IsErrAnd result (λ y. y ≡ e) → Adds (Required (FilterType F (Item k))) before after old result new
 unfolding Required As
 item_refused F k e h s = adds_refused e s (λ fresh v rest z. (h fresh).only z.1.0 rest (z.0, z.1.1, z.2))
@@ -155,13 +155,13 @@ all_four a p b d = append_assoc (a ++ p ∷ []) b d ∙ append_assoc a (p ∷ []
 
 -- Filters that are joined.
 module _ (F : Field (List Part)) (c : Connective) {m : ℕ} (q : m ≡ connective_number c) {old : Cursor} where
-  pub not_opened : {before after : List FilterPart} {new mid : Cursor} (e : Refusal BerError) {result : Result (Unit {0}) (Refusal BerError)} → OpensAt ContextSpecific true m old (Err e) mid → IsErrAnd result (λ y. y ≡ e)
+  pub not_opened : {before after : List FilterPart} {new mid : Cursor} (e : ReadError BerError) {result : Result (Unit {0}) (ReadError BerError)} → OpensAt ContextSpecific true m old (Err e) mid → IsErrAnd result (λ y. y ≡ e)
       → Adds (Required (FilterType F (Connected c))) before after old result new
   not_opened {mid = mid} e o s =
       adds_refused e s (λ fresh v rest z.
       (unopened_of (As (enclosed c) (inside_content F c)) {T = Unit {0}} {view = λ u. v} {May = NoMemory} {new = mid} {x = e} (subst (λ n. OpensAt ContextSpecific true n old (Err e) mid) q o) fresh).only v rest z)
 
-  pub no_room : {before one after : List FilterPart} {new : Cursor} (x : FilterPart) (e : Refusal BerError) {result : Result (Unit {0}) (Refusal BerError)} → IsAdded x before (Err e) one → IsErrAnd result (λ y. y ≡ e)
+  pub no_room : {before one after : List FilterPart} {new : Cursor} (x : FilterPart) (e : ReadError BerError) {result : Result (Unit {0}) (ReadError BerError)} → IsAdded x before (Err e) one → IsErrAnd result (λ y. y ≡ e)
       → Adds (Required (FilterType F (Connected c))) before after old result new
   no_room x e a s = adds_refused e s (λ fresh v rest z. a.memory)
 
@@ -169,7 +169,7 @@ module _ (F : Field (List Part)) (c : Connective) {m : ℕ} (q : m ≡ connectiv
     opens_it : OpensAt ContextSpecific true (connective_number c) old (Ok inner) new
     opens_it = subst (λ n. OpensAt ContextSpecific true n old (Ok inner) new) q o
 
-    pub inside_refused : {before one two after : List FilterPart} (e : Refusal BerError) {result : Result (Unit {0}) (Refusal BerError)} → AddsContent (inside_content F c) one two inner (Err e) → IsErrAnd result (λ y. y ≡ e)
+    pub inside_refused : {before one two after : List FilterPart} (e : ReadError BerError) {result : Result (Unit {0}) (ReadError BerError)} → AddsContent (inside_content F c) one two inner (Err e) → IsErrAnd result (λ y. y ≡ e)
         → Adds (Required (FilterType F (Connected c))) before after old result new
     inside_refused e {result = result} h s = record {
       parts = [];
@@ -177,7 +177,7 @@ module _ (F : Field (List Part)) (c : Connective) {m : ℕ} (q : m ≡ connectiv
       reads = inside_of (As (enclosed c) (inside_content F c)) opens_it (no_content_as (enclosed c) (inside_content F c) inner e s h.reads);
     }
 
-    pub joined_read : {before one two after : List FilterPart} {x y : Unit {0}} (result : Result (Unit {0}) (Refusal BerError)) → IsAdded (Open c) before (Ok x) one → AddsContent (inside_content F c) one two inner (Ok y) → IsAdded Close two result after
+    pub joined_read : {before one two after : List FilterPart} {x y : Unit {0}} (result : Result (Unit {0}) (ReadError BerError)) → IsAdded (Open c) before (Ok x) one → AddsContent (inside_content F c) one two inner (Ok y) → IsAdded Close two result after
         → Adds (Required (FilterType F (Connected c))) before after old result new
     joined_read {before = before} (Ok u) a h b = record {
       parts = enclosed c h.parts;
@@ -187,16 +187,16 @@ module _ (F : Field (List Part)) (c : Connective) {m : ℕ} (q : m ≡ connectiv
     joined_read (Err e) a h b = record { parts = []; added = tt; reads = λ fresh. record { found = tt; only = λ v rest z. b.memory } }
 
 -- the one filter of a not
-pub negated : (F : Field (List Part)) {before after : List FilterPart} {inner mid : Cursor} {x : Unit {0}} (result : Result (Unit {0}) (Refusal BerError)) → Adds F before after inner (Ok x) mid → EndsAt mid result → AddsContent (Only F) before after inner result
+pub negated : (F : Field (List Part)) {before after : List FilterPart} {inner mid : Cursor} {x : Unit {0}} (result : Result (Unit {0}) (ReadError BerError)) → Adds F before after inner (Ok x) mid → EndsAt mid result → AddsContent (Only F) before after inner result
 negated F (Ok u) h e = record { parts = h.parts; added = h.added; reads = only_read h.reads e }
 negated F (Err x) h e = record { parts = []; added = tt; reads = only_left h.reads e.0 }
 
-pub not_negated : (F : Field (List Part)) {before mid_parts after : List FilterPart} {inner mid : Cursor} (e : Refusal BerError) {result : Result (Unit {0}) (Refusal BerError)} → Adds F before mid_parts inner (Err e) mid → IsErrAnd result (λ y. y ≡ e)
+pub not_negated : (F : Field (List Part)) {before mid_parts after : List FilterPart} {inner mid : Cursor} (e : ReadError BerError) {result : Result (Unit {0}) (ReadError BerError)} → Adds F before mid_parts inner (Err e) mid → IsErrAnd result (λ y. y ≡ e)
     → AddsContent (Only F) before after inner result
 not_negated F e {result = result} h s = let y = err_from_is_err_and result s in rw (y.1, y.2) (record { parts = []; added = tt; reads = only_stops h.reads })
 
 -- an and or an or
-pub all_or_any : (F : Field (List Part)) (c : Connective) {before after : List FilterPart} {inner : Cursor} (result : Result (Unit {0}) (Refusal BerError)) → c ≢ Not → AddsContent (inside_content F And) before after inner result
+pub all_or_any : (F : Field (List Part)) (c : Connective) {before after : List FilterPart} {inner : Cursor} (result : Result (Unit {0}) (ReadError BerError)) → c ≢ Not → AddsContent (inside_content F And) before after inner result
     → AddsContent (inside_content F c) before after inner result
 all_or_any F And result n h = h
 all_or_any F Or result n h = h
@@ -219,7 +219,7 @@ pub joined_none : (F : Field (List Part)) (c : Cursor) (before : List FilterPart
 joined_none F c before = record { parts = []; added = sym (append_none (filter_of before)); left = λ fresh. start_as flat c fresh }
 
 -- one filter less is left
-more_only : {F : Field (List Part)} {d next : Cursor} {x : Unit {0}} (parts p : List Part) → octets_left d ≢ [] → ReadsNext {E = Refusal BerError} F (λ (u : Unit {0}). p) NoMemory d (Ok x) next → rules_of next ≡ rules_of d
+more_only : {F : Field (List Part)} {d next : Cursor} {x : Unit {0}} (parts p : List Part) → octets_left d ≢ [] → ReadsNext {E = ReadError BerError} F (λ (u : Unit {0}). p) NoMemory d (Ok x) next → rules_of next ≡ rules_of d
     → (us : List (List Part)) → Each F (rules_of d) (octets_left d) us → (v : List Part) → v ≡ parts ++ flat us
     → (ts : List (List Part)) × Each F (rules_of next) (octets_left next) ts × (v ≡ (parts ++ p) ++ flat ts)
 unfolding Each
@@ -272,7 +272,7 @@ module _ {F : Field (List Part)} {c d : Cursor} {before now : List FilterPart} (
     };
   }
 
-  pub joined_refused : {next : Cursor} {later after : List FilterPart} (e : Refusal BerError) {result : Result (Unit {0}) (Refusal BerError)} → octets_left d ≢ [] → Adds F now later d (Err e) next → IsErrAnd result (λ y. y ≡ e)
+  pub joined_refused : {next : Cursor} {later after : List FilterPart} (e : ReadError BerError) {result : Result (Unit {0}) (ReadError BerError)} → octets_left d ≢ [] → Adds F now later d (Err e) next → IsErrAnd result (λ y. y ≡ e)
       → AddsContent (As flat (Each F)) before after c result
   joined_refused e {result = result} n h s =
       let x = err_from_is_err_and result s in
@@ -285,7 +285,7 @@ module _ {F : Field (List Part)} {c d : Cursor} {before now : List FilterPart} (
         };
       })
 
-  pub joined_stuck : TakesOctets F → {next : Cursor} {later after : List FilterPart} {e : Refusal BerError} {x : Unit {0}} → Adds F now later d (Ok x) next → length (octets_left d) ≤ length (octets_left next)
+  pub joined_stuck : TakesOctets F → {next : Cursor} {later after : List FilterPart} {e : ReadError BerError} {x : Unit {0}} → Adds F now later d (Ok x) next → length (octets_left d) ≤ length (octets_left next)
       → AddsContent (As flat (Each F)) before after c (Err e)
   joined_stuck takes {next = next} h k = record {
     parts = [];
@@ -298,10 +298,10 @@ module _ {F : Field (List Part)} {c d : Cursor} {before now : List FilterPart} (
 
 -- all parts of a filter
 pub filter_read : {F : Field (List Part)} {before : List FilterPart} {after : Vec FilterPart} {old new : Cursor} {x : Unit {0}} → before ≡ [] → Adds F before after.items old (Ok x) new
-    → ReadsField {E = Refusal BerError} F (λ (x : Vec FilterPart). filter_of x.items) NoMemory old (Ok after) new
+    → ReadsField {E = ReadError BerError} F (λ (x : Vec FilterPart). filter_of x.items) NoMemory old (Ok after) new
 filter_read q h = gives (h.added ∙ ap (λ w. filter_of w ++ h.parts) q) (got h.reads)
 
-pub filter_refused : {T : Type 0} {view : T → List Part} {F : Field (List Part)} {before after : List FilterPart} {old new later : Cursor} {e : Refusal BerError} {result : Result T (Refusal BerError)} → Adds F before after old (Err e) new
+pub filter_refused : {T : Type 0} {view : T → List Part} {F : Field (List Part)} {before after : List FilterPart} {old new later : Cursor} {e : ReadError BerError} {result : Result T (ReadError BerError)} → Adds F before after old (Err e) new
     → IsErrAnd result (λ y. y ≡ e) → ReadsField F view NoMemory old result later
 filter_refused {result = result} h s = let y = err_from_is_err_and result s in rw (y.1, y.2) (λ fresh. record { found = tt; only = (h.reads fresh).only })
 
@@ -310,11 +310,11 @@ pub piece_takes : TakesOctets (Choice PieceType)
 unfolding Choice
 piece_takes r i v rest z = required_takes (PieceType v.0) r i v.1 rest z
 
-pub no_piece : {T : Type 0} {view : T → PieceValue} {c new : Cursor} {e : Refusal BerError} {result : Result T (Refusal BerError)} → TellsNext PieceType c (Err e) → IsErrAnd result (λ y. y ≡ e)
+pub no_piece : {T : Type 0} {view : T → PieceValue} {c new : Cursor} {e : ReadError BerError} {result : Result T (ReadError BerError)} → TellsNext PieceType c (Err e) → IsErrAnd result (λ y. y ≡ e)
     → ReadsField (Choice PieceType) view Never c result new
 unfolding Choice Required
 no_piece {result = result} t s fresh = let y = err_from_is_err_and result s in rw (y.1, y.2) (record { found = tt; only = λ v rest z. absurd (t.only v.0 (z.0, rest) z.2) })
 
-pub piece_numbered : {T : Type 0} {view : T → List ℕ} {c new : Cursor} {result : Result T (Refusal BerError)} (p : Place) {n : ℕ} → n ≡ place_number p → ReadsField (Required (Implicit n OctetString)) view Never c result new
+pub piece_numbered : {T : Type 0} {view : T → List ℕ} {c new : Cursor} {result : Result T (ReadError BerError)} (p : Place) {n : ℕ} → n ≡ place_number p → ReadsField (Required (Implicit n OctetString)) view Never c result new
     → ReadsField (Required (PieceType p)) view Never c result new
 piece_numbered {view = view} {c = c} {new = new} {result = result} p q h = subst (λ k. ReadsField (Required (Implicit k OctetString)) view Never c result new) q h

@@ -7,8 +7,8 @@ use Rattle.der_base.specs.declared.error.Error.{Error as BerError}
 use Rattle.der_base.specs.declared.header.Class.TheVariants.{Application}
 use Rattle.der_base.specs.Header.{number_of as header_number}
 use Rattle.der_cursor.specs.declared.cursor.Cursor.{Cursor}
-use Rattle.der_cursor.specs.declared.named.FieldRefusal.{FieldRefusal}
-use Rattle.der_cursor.specs.declared.refusal.Refusal.{Refusal}
+use Rattle.der_cursor.specs.declared.named.FieldError.{FieldError}
+use Rattle.der_cursor.specs.declared.error.ReadError.{ReadError}
 use Rattle.der_cursor.specs.Cursors.{OpensAt, ReadsAnyAt}
 use Rattle.der_cursor.specs.Named.{NamesRefusal}
 use Rattle.der_cursor.specs.Formats.{Constructed, Required, NoMemoryIn, ReadsContent, ReadsField, TellsNext}
@@ -52,7 +52,7 @@ one_operation IntermediateResponse IntermediateResponse e = refl
 one_operation o u e = absurd (omega (arith, e))
 
 -- the operation of the element that is next
-pub next_is : {c d : Cursor} (e : Refusal BerError) (a : Any) (t : ℕ) (o : Option Operation) → ReadsAnyAt c (Ok a) d → t ≡ header_number a.header → IsOperationAt t o → TellsNext ProtocolOp c (ok_or o e)
+pub next_is : {c d : Cursor} (e : ReadError BerError) (a : Any) (t : ℕ) (o : Option Operation) → ReadsAnyAt c (Ok a) d → t ≡ header_number a.header → IsOperationAt t o → TellsNext ProtocolOp c (ok_or o e)
 next_is e a t (Some o) h q n = next_known ProtocolOp one_operation a o t h q n
 next_is e a t None h q n = next_unknown ProtocolOp a t h q n
 
@@ -81,14 +81,14 @@ is_constructed ExtendedResponse n m k = refl
 is_constructed IntermediateResponse n m k = refl
 
 module _ (o : Operation) (e : ProtocolOp o ≡ Constructed Application (number_of o) (list_content o))
-    {m : ℕ} (q : m ≡ number_of o) (name : Bor (List ℕ)) {old new : Cursor} {r : Result Cursor (Refusal BerError)} where
-  pub list_opened : (inner : Cursor) {result : Result ContentStruct FieldRefusal} → OpensAt Application true m old r new → NamesRefusal r name (Ok inner)
+    {m : ℕ} (q : m ≡ number_of o) (name : Bor (List ℕ)) {old new : Cursor} {r : Result Cursor (ReadError BerError)} where
+  pub list_opened : (inner : Cursor) {result : Result ContentStruct FieldError} → OpensAt Application true m old r new → NamesRefusal r name (Ok inner)
       → ReadsContent (list_content o) parts_of NoMemoryIn inner result
       → ReadsField (Required (ProtocolOp o)) parts_of NoMemoryIn old result new
   list_opened inner {result = result} p s h =
       subst (λ F. ReadsField (Required F) parts_of NoMemoryIn old result new) (sym e) (inside_of_named (number_of o) (list_content o) name inner q p s h)
 
-  pub list_unopened : {after : Cursor} (f : FieldRefusal) {result : Result ContentStruct FieldRefusal} → OpensAt Application true m old r new → NamesRefusal r name (Err f)
+  pub list_unopened : {after : Cursor} (f : FieldError) {result : Result ContentStruct FieldError} → OpensAt Application true m old r new → NamesRefusal r name (Err f)
       → IsErrAnd result (λ y. y ≡ f)
       → ReadsField (Required (ProtocolOp o)) parts_of NoMemoryIn old result after
   list_unopened {after = after} f {result = result} p s h =

@@ -12,7 +12,7 @@ use Rattle.der_base.specs.declared.header.Class.TheVariants.{Application}
 use Rattle.der_base.specs.Numbers.{unsigned}
 use Rattle.der_base.specs.Octets.{identifier}
 use Rattle.der_cursor.specs.declared.cursor.Cursor.{Cursor}
-use Rattle.der_cursor.specs.declared.refusal.Refusal.{Refusal}
+use Rattle.der_cursor.specs.declared.error.ReadError.{ReadError}
 use Rattle.der_cursor.specs.Cursors.{octets_left, rules_of}
 use Rattle.der_cursor.specs.Elements.{SpellsElement}
 use Rattle.der_cursor.specs.Formats.{AnyElement, Element, Field, Required, Never, Number, OctetString, Tagged, element_of}
@@ -24,7 +24,7 @@ use Rattle.messages.specs.declared.snmp.message.Version.TheVariants.{One, TwoC}
 use Rattle.messages.specs.Snmp.Messages.{IpAddress, IsSyntax, ObjectSyntax, ReadsSyntax, VersionFormat, syntax_of, version_number}
 
 -- a reader that takes no memory
-abbrev Reads : {T V : Type 0} → Field V → (T → V) → Cursor → Result T (Refusal BerError) → Cursor → Type 0
+abbrev Reads : {T V : Type 0} → Field V → (T → V) → Cursor → Result T (ReadError BerError) → Cursor → Type 0
 Reads F view old result new = ReadsField F view Never old result new
 
 abbrev IsAddressOf : Bor (List ℕ) → Result Ipv4Addr BerError → Type 0
@@ -49,14 +49,14 @@ module _ {old : Cursor} where
     only = λ u rest z. let e = r.only (version_number u) rest z in (one_version v u (sym q ∙ e.0), e.1);
   }
 
-  pub not_version : {new after : Cursor} {e : Refusal BerError} (n : ℕ) → n ≢ 0 → n ≢ 1 → Reads (Required (Number (unsigned 32))) pos old (Ok n) new → Reads (Required VersionFormat) (λ v. v) old (Err e) after
+  pub not_version : {new after : Cursor} {e : ReadError BerError} (n : ℕ) → n ≢ 0 → n ≢ 1 → Reads (Required (Number (unsigned 32))) pos old (Ok n) new → Reads (Required VersionFormat) (λ v. v) old (Err e) after
   unfolding Required
   not_version n a b h fresh = let r = h fresh in record {
     found = tt;
     only = λ u rest z. absurd (is_no_version n u a b (r.only (version_number u) rest z).0);
   }
 
-  pub version_stops : {new after : Cursor} {e : Refusal BerError} → Reads (Required (Number (unsigned 32))) pos old (Err e) new → Reads (Required VersionFormat) (λ v. v) old (Err e) after
+  pub version_stops : {new after : Cursor} {e : ReadError BerError} → Reads (Required (Number (unsigned 32))) pos old (Err e) new → Reads (Required VersionFormat) (λ v. v) old (Err e) after
   unfolding Required
   version_stops h fresh = let r = h fresh in record { found = tt; only = λ u rest z. r.only (version_number u) rest z }
 
@@ -70,7 +70,7 @@ module _ {old : Cursor} where
     only = λ u rest z. let q = r.only u rest (z.0, z.1.0, z.2) in (s.only u (sym q.0, z.1.1), q.1);
   }
 
-  pub address_refused : {new after : Cursor} (w : Bor (List ℕ)) {x : BerError} {e : Refusal BerError} → Reads (Required (Tagged Application 0 OctetString)) (λ v. v.now) old (Ok w) new
+  pub address_refused : {new after : Cursor} (w : Bor (List ℕ)) {x : BerError} {e : ReadError BerError} → Reads (Required (Tagged Application 0 OctetString)) (λ v. v.now) old (Ok w) new
       → IsAddressOf w (Err x) → Reads (Required IpAddress) ipv4_octets old (Err e) after
   unfolding Required
   address_refused w h s fresh = let r = h fresh in record {
@@ -78,12 +78,12 @@ module _ {old : Cursor} where
     only = λ u rest z. let q = r.only u rest (z.0, z.1.0, z.2) in s.only u (sym q.0, z.1.1);
   }
 
-  pub address_stops : {new after : Cursor} {x e : Refusal BerError} → Reads {T = Bor (List ℕ)} (Required (Tagged Application 0 OctetString)) (λ v. v.now) old (Err x) new → Reads (Required IpAddress) ipv4_octets old (Err e) after
+  pub address_stops : {new after : Cursor} {x e : ReadError BerError} → Reads {T = Bor (List ℕ)} (Required (Tagged Application 0 OctetString)) (λ v. v.now) old (Err x) new → Reads (Required IpAddress) ipv4_octets old (Err e) after
   unfolding Required
   address_stops h fresh = let r = h fresh in record { found = tt; only = λ u rest z. r.only u rest (z.0, z.1.0, z.2) }
 
 -- the address of what was read, or a refusal at its place
-pub address_turned : {old new : Cursor} (P : BerError → Refusal BerError → Type 0) (w : Bor (List ℕ)) (r : Result Ipv4Addr BerError) (s : Result Ipv4Addr (Refusal BerError))
+pub address_turned : {old new : Cursor} (P : BerError → ReadError BerError → Type 0) (w : Bor (List ℕ)) (r : Result Ipv4Addr BerError) (s : Result Ipv4Addr (ReadError BerError))
     → Reads (Required (Tagged Application 0 OctetString)) (λ v. v.now) old (Ok w) new → IsAddressOf w r → MatchResult r (λ x. s ≡ Ok x) (λ e. IsErrAnd s (P e)) → Reads (Required IpAddress) ipv4_octets old s new
 address_turned P w (Ok a) s h i m = rw m (address_read w a h i)
 address_turned P w (Err x) s h i m = let y = err_from_is_err_and s m in rw y.1 (address_refused w h i)
@@ -100,7 +100,7 @@ module _ {old : Cursor} where
         (s.only v (subst (λ (y : Element). (y.1 ≡ false) × IsSyntax v y.0 y.2 y.3) (sym q.0) (refl, z.3)), q.1);
   }
 
-  pub syntax_refused : {new after : Cursor} (a : Any) {x : BerError} {e : Refusal BerError} → Reads AnyElement element_of old (Ok a) new → ReadsSyntax (element_of a) (Err x) → Reads ObjectSyntax syntax_of old (Err e) after
+  pub syntax_refused : {new after : Cursor} (a : Any) {x : BerError} {e : ReadError BerError} → Reads AnyElement element_of old (Ok a) new → ReadsSyntax (element_of a) (Err x) → Reads ObjectSyntax syntax_of old (Err e) after
   unfolding ObjectSyntax AnyElement
   syntax_refused a h s fresh = let r = h fresh in record {
     found = tt;
@@ -110,7 +110,7 @@ module _ {old : Cursor} where
         s.only v (subst (λ (y : Element). (y.1 ≡ false) × IsSyntax v y.0 y.2 y.3) (sym q.0) (refl, z.3));
   }
 
-  pub syntax_stops : {new after : Cursor} {x e : Refusal BerError} → Reads {T = Any} AnyElement element_of old (Err x) new → Reads ObjectSyntax syntax_of old (Err e) after
+  pub syntax_stops : {new after : Cursor} {x e : ReadError BerError} → Reads {T = Any} AnyElement element_of old (Err x) new → Reads ObjectSyntax syntax_of old (Err e) after
   unfolding ObjectSyntax AnyElement
   syntax_stops h fresh = let r = h fresh in record {
     found = tt;
@@ -120,7 +120,7 @@ module _ {old : Cursor} where
   }
 
 -- the value of what was read, or a refusal at its place
-pub syntax_turned : {old new : Cursor} (P : BerError → Refusal BerError → Type 0) (a : Any) (r : Result ValueStruct BerError) (s : Result ValueStruct (Refusal BerError))
+pub syntax_turned : {old new : Cursor} (P : BerError → ReadError BerError → Type 0) (a : Any) (r : Result ValueStruct BerError) (s : Result ValueStruct (ReadError BerError))
     → Reads AnyElement element_of old (Ok a) new → ReadsSyntax (element_of a) r → MatchResult r (λ x. s ≡ Ok x) (λ e. IsErrAnd s (P e)) → Reads ObjectSyntax syntax_of old s new
 syntax_turned P a (Ok x) s h i m = rw m (syntax_read a x h i)
 syntax_turned P a (Err x) s h i m = let y = err_from_is_err_and s m in rw y.1 (syntax_refused a h i)

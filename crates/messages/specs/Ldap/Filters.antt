@@ -7,7 +7,7 @@ use Rattle.std.specs.Option.{option_map}
 use Rattle.der_base.specs.declared.error.Error.{Error as BerError}
 use Rattle.der_base.specs.declared.header.Class.TheVariants.{ContextSpecific}
 use Rattle.der_cursor.specs.declared.cursor.Cursor.{Cursor}
-use Rattle.der_cursor.specs.declared.refusal.Refusal.{Refusal}
+use Rattle.der_cursor.specs.declared.error.ReadError.{ReadError}
 use Rattle.der_cursor.specs.Formats.{As, Boolean, Choice, Constructed, Content, Each, Field, Format, Implicit, Limited}
 use Rattle.der_cursor.specs.Formats.{NoMemory, OctetString, Only, Optional, Others, ReadsContent, ReadsField}
 use Rattle.der_cursor.specs.Formats.{Required, Sequence, ◌⨾◌}
@@ -173,19 +173,19 @@ filter_of v = map part_of v
 -- Readers that add the parts that they read to others.
 
 pub record Adds (F : Field (List Part)) (before after : List FilterPart) (old : Cursor)
-    (result : Result (Unit {0}) (Refusal BerError)) (new : Cursor) : Type 0 where
+    (result : Result (Unit {0}) (ReadError BerError)) (new : Cursor) : Type 0 where
   pub parts : List Part
   pub added : OnOk result (filter_of after ≡ filter_of before ++ parts)
   pub reads : ReadsField F (λ (x : Unit {0}). parts) NoMemory old result new
 
 pub record AddsContent (C : Content (List Part)) (before after : List FilterPart) (c : Cursor)
-    (result : Result (Unit {0}) (Refusal BerError)) : Type 0 where
+    (result : Result (Unit {0}) (ReadError BerError)) : Type 0 where
   pub parts : List Part
   pub added : OnOk result (filter_of after ≡ filter_of before ++ parts)
   pub reads : ReadsContent C (λ (x : Unit {0}). parts) NoMemory c result
 
 -- one part is added, or there is no memory
-pub record IsAdded (part : FilterPart) (before : List FilterPart) (result : Result (Unit {0}) (Refusal BerError))
+pub record IsAdded (part : FilterPart) (before : List FilterPart) (result : Result (Unit {0}) (ReadError BerError))
     (after : List FilterPart) : Type 0 where
   pub added : OnOk result (filter_of after ≡ filter_of before ++ part_of part ∷ [])
   pub memory : IfErr result NoMemory

@@ -9,7 +9,7 @@ ghost use Rattle.messages.specs.Kerberos.Requests.{Exactly, Int32, KdcOptions, K
 use der_base::error::BerError;
 use der_base::header::{Class, Tag};
 use der_base::time::ASN1DateTime;
-use der_cursor::{Cursor, Refusal};
+use der_cursor::{Cursor, ReadError};
 use der_values::BitString;
 
 /// Opens a SEQUENCE inside a tag of this class and number, with nothing after it.
@@ -17,7 +17,7 @@ pub(crate) fn open_last<'a>(
     mut fields: Cursor<'a>,
     class: Class,
     number: u32,
-) -> Result<Cursor<'a>, Refusal<BerError>>
+) -> Result<Cursor<'a>, ReadError<BerError>>
     ensures { Opens (Only (Required (Constructed class number (Only (Required (Sequence Octets))))))
         fields.entry result }
 {
@@ -29,7 +29,7 @@ pub(crate) fn open_last<'a>(
 /// Opens a SEQUENCE with nothing after it.
 pub(crate) fn open_sequence_alone<'a>(
     mut fields: Cursor<'a>,
-) -> Result<Cursor<'a>, Refusal<BerError>>
+) -> Result<Cursor<'a>, ReadError<BerError>>
     ensures { Opens (Only (Required (Sequence Octets))) fields.entry result }
 {
     let inside = fields.open_sequence()?;
@@ -41,7 +41,7 @@ pub(crate) fn open_sequence_alone<'a>(
 pub(crate) fn open_field<'a>(
     fields: &mut Cursor<'a>,
     number: u32,
-) -> Result<Cursor<'a>, Refusal<BerError>>
+) -> Result<Cursor<'a>, ReadError<BerError>>
     ensures { OpensAt Class.ContextSpecific true number fields.old result fields.new }
 {
     fields.open(Class::ContextSpecific, true, Tag(number))
@@ -52,7 +52,7 @@ pub(crate) fn check_number(
     fields: &mut Cursor<'_>,
     number: u32,
     value: u32,
-) -> Result<(), Refusal<BerError>>
+) -> Result<(), ReadError<BerError>>
     ensures { ReadsField (Required (Explicit number (Required (Exactly value)))) (λ _. pos value) Never
         fields.old result fields.new }
 {
@@ -61,7 +61,7 @@ pub(crate) fn check_number(
     field.end()
 }
 
-fn check_value(field: &mut Cursor<'_>, value: u32) -> Result<(), Refusal<BerError>>
+fn check_value(field: &mut Cursor<'_>, value: u32) -> Result<(), ReadError<BerError>>
     ensures { ReadsField (Required (Exactly value)) (λ _. pos value) Never field.old result field.new }
 {
     let before = *field;
@@ -72,7 +72,7 @@ fn check_value(field: &mut Cursor<'_>, value: u32) -> Result<(), Refusal<BerErro
     Ok(())
 }
 
-pub(crate) fn read_options<'a>(body: &mut Cursor<'a>) -> Result<BitString<'a>, Refusal<BerError>>
+pub(crate) fn read_options<'a>(body: &mut Cursor<'a>) -> Result<BitString<'a>, ReadError<BerError>>
     ensures { ReadsField (Required (Explicit 0 (Required KdcOptions))) (λ x. (x.unused, x.octets.now)) Never
         body.old result body.new }
 {
@@ -82,7 +82,7 @@ pub(crate) fn read_options<'a>(body: &mut Cursor<'a>) -> Result<BitString<'a>, R
     Ok(options)
 }
 
-pub(crate) fn read_realm<'a>(body: &mut Cursor<'a>) -> Result<&'a str, Refusal<BerError>>
+pub(crate) fn read_realm<'a>(body: &mut Cursor<'a>) -> Result<&'a str, ReadError<BerError>>
     ensures { ReadsField (Required (Explicit 2 (Required Realm))) (λ x. x.now) Never body.old result body.new }
 {
     let mut field = open_field(body, 2)?;
@@ -91,7 +91,7 @@ pub(crate) fn read_realm<'a>(body: &mut Cursor<'a>) -> Result<&'a str, Refusal<B
     Ok(realm)
 }
 
-pub(crate) fn read_nonce(body: &mut Cursor<'_>) -> Result<u32, Refusal<BerError>>
+pub(crate) fn read_nonce(body: &mut Cursor<'_>) -> Result<u32, ReadError<BerError>>
     ensures { ReadsField (Required (Explicit 7 (Required UInt32))) pos Never body.old result body.new }
 {
     let mut field = open_field(body, 7)?;
@@ -100,7 +100,7 @@ pub(crate) fn read_nonce(body: &mut Cursor<'_>) -> Result<u32, Refusal<BerError>
     Ok(nonce)
 }
 
-pub(crate) fn read_name_kind(fields: &mut Cursor<'_>) -> Result<i32, Refusal<BerError>>
+pub(crate) fn read_name_kind(fields: &mut Cursor<'_>) -> Result<i32, ReadError<BerError>>
     ensures { ReadsField (Required (Explicit 0 (Required Int32))) (λ n. n) Never fields.old result fields.new }
 {
     let mut field = open_field(fields, 0)?;
@@ -109,7 +109,7 @@ pub(crate) fn read_name_kind(fields: &mut Cursor<'_>) -> Result<i32, Refusal<Ber
     Ok(kind)
 }
 
-pub(crate) fn read_till(body: &mut Cursor<'_>) -> Result<ASN1DateTime, Refusal<BerError>>
+pub(crate) fn read_till(body: &mut Cursor<'_>) -> Result<ASN1DateTime, ReadError<BerError>>
     ensures { ReadsField (Required (Explicit 5 (Required KerberosTime))) (λ t. t) Never body.old result body.new }
 {
     read_last_time(open_field(body, 5)?)
@@ -119,7 +119,7 @@ pub(crate) fn read_till(body: &mut Cursor<'_>) -> Result<ASN1DateTime, Refusal<B
 pub(crate) fn read_time(
     body: &mut Cursor<'_>,
     number: u8,
-) -> Result<Option<ASN1DateTime>, Refusal<BerError>>
+) -> Result<Option<ASN1DateTime>, ReadError<BerError>>
     ensures { ReadsField (OptionalTagged number (Only (Required KerberosTime))) (λ x. x) Never
         body.old result body.new }
 {
@@ -129,7 +129,7 @@ pub(crate) fn read_time(
     }
 }
 
-fn read_last_time(mut field: Cursor<'_>) -> Result<ASN1DateTime, Refusal<BerError>>
+fn read_last_time(mut field: Cursor<'_>) -> Result<ASN1DateTime, ReadError<BerError>>
     ensures { ReadsContent (Only (Required KerberosTime)) (λ t. t) Never field.entry result }
 {
     let time = field.generalized_time()?;

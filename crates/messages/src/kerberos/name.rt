@@ -6,7 +6,7 @@ ghost use Rattle.messages.specs.Kerberos.Requests.{KerberosString, NameFields, P
 use crate::kerberos::fields::{open_last, open_sequence_alone, read_name_kind};
 use der_base::error::BerError;
 use der_base::header::Class;
-use der_cursor::{Cursor, Refusal};
+use der_cursor::{Cursor, ReadError};
 use std::alloc::Global;
 
 /// The components of a name (RFC 4120 5.2.2).
@@ -18,7 +18,7 @@ pub(crate) fn read_principal<'a>(
     alloc: Global,
     body: &mut Cursor<'a>,
     number: u8,
-) -> Result<Option<Principal<'a>>, Refusal<BerError>>
+) -> Result<Option<Principal<'a>>, ReadError<BerError>>
     ensures { ReadsField (OptionalTagged number (Only (Required PrincipalName))) (λ x. option_map name_of x) NoMemory
         body.old result body.new }
 {
@@ -28,14 +28,20 @@ pub(crate) fn read_principal<'a>(
     }
 }
 
-fn read_last_name<'a>(alloc: Global, field: Cursor<'a>) -> Result<Principal<'a>, Refusal<BerError>>
+fn read_last_name<'a>(
+    alloc: Global,
+    field: Cursor<'a>,
+) -> Result<Principal<'a>, ReadError<BerError>>
     ensures { ReadsContent (Only (Required PrincipalName)) name_of NoMemory field.entry result }
 {
     let fields = open_sequence_alone(field)?;
     read_name(alloc, fields)
 }
 
-fn read_name<'a>(alloc: Global, mut fields: Cursor<'a>) -> Result<Principal<'a>, Refusal<BerError>>
+fn read_name<'a>(
+    alloc: Global,
+    mut fields: Cursor<'a>,
+) -> Result<Principal<'a>, ReadError<BerError>>
     ensures { ReadsContent NameFields name_of NoMemory fields.entry result }
 {
     read_name_kind(&mut fields)?;
@@ -44,7 +50,7 @@ fn read_name<'a>(alloc: Global, mut fields: Cursor<'a>) -> Result<Principal<'a>,
     Ok(Principal(components))
 }
 
-fn read_text<'a>(_alloc: Global, texts: &mut Cursor<'a>) -> Result<&'a str, Refusal<BerError>>
+fn read_text<'a>(_alloc: Global, texts: &mut Cursor<'a>) -> Result<&'a str, ReadError<BerError>>
     ensures { ReadsField (Required KerberosString) (λ t. t.now) Never texts.old result texts.new }
 {
     texts.general_string()

@@ -13,7 +13,7 @@ use crate::kerberos::name::{Principal, read_principal};
 use der_base::error::BerError;
 use der_base::header::{Class, Tag};
 use der_base::time::ASN1DateTime;
-use der_cursor::{Cursor, FieldRefusal, Named, Refusal};
+use der_cursor::{Cursor, FieldError, Named, ReadError};
 use std::alloc::Global;
 
 /// The version of the protocol, pvno (RFC 4120 5.4.1).
@@ -36,7 +36,7 @@ pub struct Request<'a> {
 }
 
 /// Reads an AS-REQ. Trailing data is an error. Incomplete iff the input ends within the request.
-pub fn read_request<'a>(alloc: Global, octets: &'a [u8]) -> Result<Request<'a>, FieldRefusal>
+pub fn read_request<'a>(alloc: Global, octets: &'a [u8]) -> Result<Request<'a>, FieldError>
     ensures { ReadsNamedInput Rules.Der AsReq request_of NoMemoryIn octets.now result }
 {
     match read_whole_request(alloc, octets) {
@@ -48,7 +48,7 @@ pub fn read_request<'a>(alloc: Global, octets: &'a [u8]) -> Result<Request<'a>, 
     }
 }
 
-fn read_whole_request<'a>(alloc: Global, octets: &'a [u8]) -> Result<Request<'a>, FieldRefusal>
+fn read_whole_request<'a>(alloc: Global, octets: &'a [u8]) -> Result<Request<'a>, FieldError>
     ensures { ReadsWhole (Only (Required AsReq) Rules.Der octets.now) request_of NoMemoryIn result }
 {
     let input = Cursor::new(octets);
@@ -56,7 +56,7 @@ fn read_whole_request<'a>(alloc: Global, octets: &'a [u8]) -> Result<Request<'a>
     read_message(alloc, fields)
 }
 
-fn read_message<'a>(alloc: Global, mut fields: Cursor<'a>) -> Result<Request<'a>, FieldRefusal>
+fn read_message<'a>(alloc: Global, mut fields: Cursor<'a>) -> Result<Request<'a>, FieldError>
     ensures { ReadsContent RequestFields request_of NoMemoryIn fields.entry result }
 {
     check_number(&mut fields, 1, VERSION).named("pvno")?;
@@ -67,7 +67,7 @@ fn read_message<'a>(alloc: Global, mut fields: Cursor<'a>) -> Result<Request<'a>
     read_body(alloc, body)
 }
 
-fn read_body<'a>(alloc: Global, mut body: Cursor<'a>) -> Result<Request<'a>, FieldRefusal>
+fn read_body<'a>(alloc: Global, mut body: Cursor<'a>) -> Result<Request<'a>, FieldError>
     ensures { ReadsContent BodyFields body_of NoMemoryIn body.entry result }
 {
     let request = read_ticket(alloc, &mut body).named("req-body")?;
@@ -76,7 +76,7 @@ fn read_body<'a>(alloc: Global, mut body: Cursor<'a>) -> Result<Request<'a>, Fie
 }
 
 /// Reads the fields of the requested ticket.
-fn read_ticket<'a>(alloc: Global, body: &mut Cursor<'a>) -> Result<Request<'a>, FieldRefusal>
+fn read_ticket<'a>(alloc: Global, body: &mut Cursor<'a>) -> Result<Request<'a>, FieldError>
     ensures { ReadsField TicketFields ticket_of NoMemoryIn body.old result body.new }
 {
     read_options(body).named("kdc-options")?;
@@ -101,7 +101,7 @@ fn read_ticket<'a>(alloc: Global, body: &mut Cursor<'a>) -> Result<Request<'a>, 
 type Times = (Option<ASN1DateTime>, ASN1DateTime, Option<ASN1DateTime>);
 
 /// Reads the times of the ticket: `from`, `till` and `rtime`.
-fn read_times(body: &mut Cursor<'_>) -> Result<Times, FieldRefusal>
+fn read_times(body: &mut Cursor<'_>) -> Result<Times, FieldError>
     ensures { ReadsField TimesFormat (λ x. (x.0, (x.1, x.2))) Never body.old result body.new }
 {
     let from = read_time(body, 4).named("from")?;
@@ -110,7 +110,7 @@ fn read_times(body: &mut Cursor<'_>) -> Result<Times, FieldRefusal>
     Ok((from, till, renewable_till))
 }
 
-fn read_kinds(alloc: Global, body: &mut Cursor<'_>) -> Result<Vec<i32>, Refusal<BerError>>
+fn read_kinds(alloc: Global, body: &mut Cursor<'_>) -> Result<Vec<i32>, ReadError<BerError>>
     ensures { ReadsField (Required (Explicit 8 (Required Kinds))) (λ v. v.items) NoMemory
         body.old result body.new }
 {
@@ -119,14 +119,14 @@ fn read_kinds(alloc: Global, body: &mut Cursor<'_>) -> Result<Vec<i32>, Refusal<
     kinds.read_all(alloc, read_kind)
 }
 
-fn read_kind(_alloc: Global, kinds: &mut Cursor<'_>) -> Result<i32, Refusal<BerError>>
+fn read_kind(_alloc: Global, kinds: &mut Cursor<'_>) -> Result<i32, ReadError<BerError>>
     ensures { ReadsField (Required Int32) (λ n. n) Never kinds.old result kinds.new }
 {
     kinds.i32()
 }
 
 /// Skips the fields up to the end: addresses, authorization data and additional tickets.
-fn end_body(mut body: Cursor<'_>) -> Result<(), Refusal<BerError>>
+fn end_body(mut body: Cursor<'_>) -> Result<(), ReadError<BerError>>
     ensures { ReadsContent PassedFields (λ _. (tt, (tt, (tt, tt)))) Never body.entry result }
 {
     body.open_tagged(9)?;

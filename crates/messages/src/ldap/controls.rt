@@ -6,11 +6,11 @@ ghost use Rattle.messages.specs.Ldap.Messages.{Control as ControlFormat, Texts, 
 use crate::ldap::items::{pass_over, read_text};
 use crate::ldap::message::Control;
 use der_base::error::BerError;
-use der_cursor::{Cursor, Refusal};
+use der_cursor::{Cursor, ReadError};
 use std::alloc::Global;
 
 /// The result of reading a field.
-type Read<T> = Result<T, Refusal<BerError>>;
+type Read<T> = Result<T, ReadError<BerError>>;
 
 /// Reads the controls of a message, if they are next.
 pub fn read_controls<'a>(alloc: Global, fields: &mut Cursor<'a>) -> Read<Option<Vec<Control<'a>>>>

@@ -10,11 +10,11 @@ use crate::ldap::filter::{FilterPart, Piece, Place, Relation};
 use crate::ldap::items::pass_over;
 use der_base::error::BerError;
 use der_base::header::{Class, Tag};
-use der_cursor::{Cursor, Refusal};
+use der_cursor::{Cursor, ReadError};
 use std::alloc::Global;
 
 /// The result of reading a field.
-type Read<T> = Result<T, Refusal<BerError>>;
+type Read<T> = Result<T, ReadError<BerError>>;
 
 /// Reads an attribute and the value to compare it with.
 pub fn read_comparison<'a>(

@@ -11,11 +11,11 @@ use crate::ldap::filter::{Connective, FilterKind, FilterPart, ItemKind};
 use crate::ldap::filter_items::{read_comparison, read_extensible, read_present, read_substrings};
 use der_base::error::{BerError, Err as Refused, ErrorKind};
 use der_base::header::Class;
-use der_cursor::{Cursor, Refusal};
+use der_cursor::{Cursor, ReadError};
 use std::alloc::Global;
 
 /// The result of reading a field.
-type Read<T> = Result<T, Refusal<BerError>>;
+type Read<T> = Result<T, ReadError<BerError>>;
 
 /// The most filters inside each other, including the outermost.
 pub const DEEPEST_FILTER: usize = 32;
@@ -152,7 +152,7 @@ fn add<'a>(part: FilterPart<'a>, offset: usize, parts: &mut Vec<FilterPart<'a>>)
     ensures { IsAdded part.entry parts.old.items result parts.new.items }
 {
     if parts.push(part).is_err() {
-        return Err(Refusal {
+        return Err(ReadError {
             offset,
             list_end: None,
             reason: Refused::OutOfMemory,

@@ -8,11 +8,11 @@ ghost use Rattle.messages.specs.Ldap.Words.{AnyChoice};
 use crate::ldap::message::{Attribute, Change};
 use der_base::error::BerError;
 use der_base::header::Class;
-use der_cursor::{Cursor, Refusal};
+use der_cursor::{Cursor, ReadError};
 use std::alloc::Global;
 
 /// The result of reading a field.
-type Read<T> = Result<T, Refusal<BerError>>;
+type Read<T> = Result<T, ReadError<BerError>>;
 
 pub fn read_text<'a>(_alloc: Global, list: &mut Cursor<'a>) -> Read<&'a [u8]>
     ensures { ReadsField (Required OctetString) (λ x. x.now) Never list.old result list.new }

@@ -16,14 +16,14 @@ use crate::ldap::message::{Content, Message, Operation, Search};
 use der_base::error::BerError;
 use der_base::header::Class;
 use der_base::rules::Rules;
-use der_cursor::{Cursor, FieldRefusal, Named, Refusal};
+use der_cursor::{Cursor, FieldError, Named, ReadError};
 use std::alloc::Global;
 
 /// Reads a message and returns the octets after it. Incomplete only if the input ends within the message.
 pub fn read_message<'a>(
     alloc: Global,
     octets: &'a [u8],
-) -> Result<(&'a [u8], Message<'a>), FieldRefusal>
+) -> Result<(&'a [u8], Message<'a>), FieldError>
     ensures { ReadsFront Rules.Ber MessageFormat message_of NoMemoryIn octets.now result }
 {
     let mut input = Cursor::by(Rules::Ber, octets);
@@ -34,7 +34,7 @@ pub fn read_message<'a>(
     }
 }
 
-fn read_fields<'a>(alloc: Global, mut fields: Cursor<'a>) -> Result<Message<'a>, FieldRefusal>
+fn read_fields<'a>(alloc: Global, mut fields: Cursor<'a>) -> Result<Message<'a>, FieldError>
     ensures { ReadsContent MessageContent message_of NoMemoryIn fields.entry result }
 {
     let id = fields.u32().named("messageID")?;
@@ -52,7 +52,7 @@ fn read_fields<'a>(alloc: Global, mut fields: Cursor<'a>) -> Result<Message<'a>,
 fn read_operation<'a>(
     alloc: Global,
     fields: &mut Cursor<'a>,
-) -> Result<(Operation, Content<'a>), FieldRefusal>
+) -> Result<(Operation, Content<'a>), FieldError>
     ensures { ReadsField (Choice ProtocolOp) (λ x. (x.0, parts_of x.1)) NoMemoryIn fields.old result fields.new }
 {
     let operation = next_operation(*fields).named("protocolOp")?;
@@ -61,7 +61,7 @@ fn read_operation<'a>(
 }
 
 /// Returns the operation that is next.
-fn next_operation(fields: Cursor<'_>) -> Result<Operation, Refusal<BerError>>
+fn next_operation(fields: Cursor<'_>) -> Result<Operation, ReadError<BerError>>
     ensures { TellsNext ProtocolOp fields.entry result }
 {
     let mut ahead = fields;
@@ -74,7 +74,7 @@ fn read_content<'a>(
     alloc: Global,
     operation: Operation,
     fields: &mut Cursor<'a>,
-) -> Result<Content<'a>, FieldRefusal>
+) -> Result<Content<'a>, FieldError>
     ensures { ReadsField (Required (ProtocolOp operation)) parts_of NoMemoryIn fields.old result fields.new }
 {
     match operation {
@@ -105,7 +105,7 @@ fn read_list<'a>(
     alloc: Global,
     operation: Operation,
     list: Cursor<'a>,
-) -> Result<Content<'a>, FieldRefusal>
+) -> Result<Content<'a>, FieldError>
     ensures { ReadsContent (list_content operation) parts_of NoMemoryIn list.entry result }
 {
     match operation {
@@ -121,7 +121,7 @@ fn read_list<'a>(
     }
 }
 
-fn read_bind<'a>(alloc: Global, mut list: Cursor<'a>) -> Result<Content<'a>, FieldRefusal>
+fn read_bind<'a>(alloc: Global, mut list: Cursor<'a>) -> Result<Content<'a>, FieldError>
     ensures { ReadsContent BindContent parts_of NoMemoryIn list.entry result }
 {
     list.u32().named("version")?;
@@ -131,7 +131,7 @@ fn read_bind<'a>(alloc: Global, mut list: Cursor<'a>) -> Result<Content<'a>, Fie
     Ok(Content::Name(name))
 }
 
-fn read_search<'a>(alloc: Global, mut list: Cursor<'a>) -> Result<Content<'a>, FieldRefusal>
+fn read_search<'a>(alloc: Global, mut list: Cursor<'a>) -> Result<Content<'a>, FieldError>
     ensures { ReadsContent SearchContent parts_of NoMemoryIn list.entry result }
 {
     let base = list.octets().named("baseObject")?;
@@ -155,7 +155,7 @@ fn read_search<'a>(alloc: Global, mut list: Cursor<'a>) -> Result<Content<'a>, F
     }))
 }
 
-fn read_entry<'a>(alloc: Global, mut list: Cursor<'a>) -> Result<Content<'a>, FieldRefusal>
+fn read_entry<'a>(alloc: Global, mut list: Cursor<'a>) -> Result<Content<'a>, FieldError>
     ensures { ReadsContent EntryContent parts_of NoMemoryIn list.entry result }
 {
     let name = list.octets().named("name")?;
@@ -164,7 +164,7 @@ fn read_entry<'a>(alloc: Global, mut list: Cursor<'a>) -> Result<Content<'a>, Fi
     Ok(Content::Entry { name, attributes })
 }
 
-fn read_modification<'a>(alloc: Global, mut list: Cursor<'a>) -> Result<Content<'a>, FieldRefusal>
+fn read_modification<'a>(alloc: Global, mut list: Cursor<'a>) -> Result<Content<'a>, FieldError>
     ensures { ReadsContent ModifyContent parts_of NoMemoryIn list.entry result }
 {
     let name = list.octets().named("object")?;
@@ -173,7 +173,7 @@ fn read_modification<'a>(alloc: Global, mut list: Cursor<'a>) -> Result<Content<
     Ok(Content::Modification { name, changes })
 }
 
-fn read_rename<'a>(alloc: Global, mut list: Cursor<'a>) -> Result<Content<'a>, FieldRefusal>
+fn read_rename<'a>(alloc: Global, mut list: Cursor<'a>) -> Result<Content<'a>, FieldError>
     ensures { ReadsContent RenameContent parts_of NoMemoryIn list.entry result }
 {
     let name = list.octets().named("entry")?;
@@ -182,7 +182,7 @@ fn read_rename<'a>(alloc: Global, mut list: Cursor<'a>) -> Result<Content<'a>, F
     Ok(Content::Rename { name, new_name })
 }
 
-fn read_comparison<'a>(alloc: Global, mut list: Cursor<'a>) -> Result<Content<'a>, FieldRefusal>
+fn read_comparison<'a>(alloc: Global, mut list: Cursor<'a>) -> Result<Content<'a>, FieldError>
     ensures { ReadsContent CompareContent parts_of NoMemoryIn list.entry result }
 {
     let name = list.octets().named("entry")?;
@@ -195,7 +195,7 @@ fn read_comparison<'a>(alloc: Global, mut list: Cursor<'a>) -> Result<Content<'a
     })
 }
 
-fn read_assertion<'a>(list: &mut Cursor<'a>) -> Result<(&'a [u8], &'a [u8]), FieldRefusal>
+fn read_assertion<'a>(list: &mut Cursor<'a>) -> Result<(&'a [u8], &'a [u8]), FieldError>
     ensures { ReadsField (Required Assertion) (λ x. (x.0.now, (x.1.now, tt))) Never list.old result list.new }
 {
     let mut fields = list.open_sequence().named("ava")?;
@@ -204,21 +204,21 @@ fn read_assertion<'a>(list: &mut Cursor<'a>) -> Result<(&'a [u8], &'a [u8]), Fie
     Ok((attribute, value))
 }
 
-fn read_references<'a>(alloc: Global, list: Cursor<'a>) -> Result<Content<'a>, FieldRefusal>
+fn read_references<'a>(alloc: Global, list: Cursor<'a>) -> Result<Content<'a>, FieldError>
     ensures { ReadsContent ReferenceContent parts_of NoMemoryIn list.entry result }
 {
     let uris = list.read_all(alloc, read_text).named("uri")?;
     Ok(Content::References(uris))
 }
 
-fn read_nothing<'a>(alloc: Global, list: Cursor<'a>) -> Result<Content<'a>, FieldRefusal>
+fn read_nothing<'a>(alloc: Global, list: Cursor<'a>) -> Result<Content<'a>, FieldError>
     ensures { ReadsContent (As (λ v. nothing) Others) parts_of NoMemoryIn list.entry result }
 {
     pass_over(alloc, list).named("extensions")?;
     Ok(Content::Nothing)
 }
 
-fn read_result<'a>(alloc: Global, mut list: Cursor<'a>) -> Result<Content<'a>, FieldRefusal>
+fn read_result<'a>(alloc: Global, mut list: Cursor<'a>) -> Result<Content<'a>, FieldError>
     ensures { ReadsContent ResultContent parts_of NoMemoryIn list.entry result }
 {
     let code = list.enumerated().named("resultCode")?;

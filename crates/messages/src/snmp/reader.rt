@@ -13,7 +13,7 @@ use crate::snmp::value::{address_of, read_bindings};
 use der_base::error::BerError;
 use der_base::header::Class;
 use der_base::rules::Rules;
-use der_cursor::{Cursor, FieldRefusal, Named, Refusal};
+use der_cursor::{Cursor, FieldError, Named, ReadError};
 use std::alloc::Global;
 use std::net::Ipv4Addr;
 
@@ -21,7 +21,7 @@ use std::net::Ipv4Addr;
 pub fn read_message<'a>(
     alloc: Global,
     octets: &'a [u8],
-) -> Result<(&'a [u8], Message<'a>), FieldRefusal>
+) -> Result<(&'a [u8], Message<'a>), FieldError>
     ensures { ReadsFront Rules.Ber MessageFormat message_of NoMemoryIn octets.now result }
 {
     let mut input = Cursor::by(Rules::Ber, octets);
@@ -32,7 +32,7 @@ pub fn read_message<'a>(
     }
 }
 
-fn read_fields<'a>(alloc: Global, mut fields: Cursor<'a>) -> Result<Message<'a>, FieldRefusal>
+fn read_fields<'a>(alloc: Global, mut fields: Cursor<'a>) -> Result<Message<'a>, FieldError>
     ensures { ReadsContent MessageContent message_of NoMemoryIn fields.entry result }
 {
     let version = read_version(&mut fields).named("version")?;
@@ -51,7 +51,7 @@ fn read_fields<'a>(alloc: Global, mut fields: Cursor<'a>) -> Result<Message<'a>,
 }
 
 /// Reads a version, which is encoded as 0 or 1.
-fn read_version(fields: &mut Cursor<'_>) -> Result<Version, Refusal<BerError>>
+fn read_version(fields: &mut Cursor<'_>) -> Result<Version, ReadError<BerError>>
     ensures { ReadsField (Required VersionFormat) (λ v. v) Never fields.old result fields.new }
 {
     let before = *fields;
@@ -62,7 +62,7 @@ fn read_version(fields: &mut Cursor<'_>) -> Result<Version, Refusal<BerError>>
     }
 }
 
-fn read_pdu<'a>(alloc: Global, fields: &mut Cursor<'a>) -> Result<Pdu<'a>, FieldRefusal>
+fn read_pdu<'a>(alloc: Global, fields: &mut Cursor<'a>) -> Result<Pdu<'a>, FieldError>
     ensures { ReadsField Pdus pdu_of NoMemoryIn fields.old result fields.new }
 {
     let operation = next_operation(*fields).named("pdu")?;
@@ -76,7 +76,7 @@ fn read_pdu<'a>(alloc: Global, fields: &mut Cursor<'a>) -> Result<Pdu<'a>, Field
 }
 
 /// Returns the operation that is next.
-fn next_operation(fields: Cursor<'_>) -> Result<Operation, Refusal<BerError>>
+fn next_operation(fields: Cursor<'_>) -> Result<Operation, ReadError<BerError>>
     ensures { TellsNext PduFormat fields.entry result }
 {
     let mut ahead = fields;
@@ -84,7 +84,7 @@ fn next_operation(fields: Cursor<'_>) -> Result<Operation, Refusal<BerError>>
     Operation::of_tag(tag).ok_or(fields.refuse(BerError::UnknownTag(tag.0)))
 }
 
-fn read_common<'a>(alloc: Global, mut pdu: Cursor<'a>) -> Result<Content<'a>, FieldRefusal>
+fn read_common<'a>(alloc: Global, mut pdu: Cursor<'a>) -> Result<Content<'a>, FieldError>
     ensures { ReadsContent CommonContent content_of NoMemoryIn pdu.entry result }
 {
     let content = Content::Common {
@@ -97,7 +97,7 @@ fn read_common<'a>(alloc: Global, mut pdu: Cursor<'a>) -> Result<Content<'a>, Fi
     Ok(content)
 }
 
-fn read_trap<'a>(alloc: Global, mut pdu: Cursor<'a>) -> Result<Content<'a>, FieldRefusal>
+fn read_trap<'a>(alloc: Global, mut pdu: Cursor<'a>) -> Result<Content<'a>, FieldError>
     ensures { ReadsContent TrapContent content_of NoMemoryIn pdu.entry result }
 {
     let content = Content::Trap {
@@ -113,7 +113,7 @@ fn read_trap<'a>(alloc: Global, mut pdu: Cursor<'a>) -> Result<Content<'a>, Fiel
 }
 
 /// Reads an IpAddress, as in `Value::Address`.
-fn read_address(pdu: &mut Cursor<'_>) -> Result<Ipv4Addr, Refusal<BerError>>
+fn read_address(pdu: &mut Cursor<'_>) -> Result<Ipv4Addr, ReadError<BerError>>
     ensures { ReadsField (Required IpAddress) ipv4_octets Never pdu.old result pdu.new }
 {
     let before = *pdu;
@@ -121,7 +121,7 @@ fn read_address(pdu: &mut Cursor<'_>) -> Result<Ipv4Addr, Refusal<BerError>>
     address_of(octets).map_err(|e| before.refuse(e))
 }
 
-fn read_time_stamp(pdu: &mut Cursor<'_>) -> Result<u32, Refusal<BerError>>
+fn read_time_stamp(pdu: &mut Cursor<'_>) -> Result<u32, ReadError<BerError>>
     ensures { ReadsField (Required Ticks) pos Never pdu.old result pdu.new }
 {
     pdu.implicit_of(Class::Application, 3).u32()

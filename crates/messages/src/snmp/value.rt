@@ -9,7 +9,7 @@ use der_base::any::Any;
 use der_base::error::BerError;
 use der_base::header::Class;
 use der_base::rules::Rules;
-use der_cursor::{Cursor, Refusal};
+use der_cursor::{Cursor, ReadError};
 use der_values::{read_i32, read_identifier, read_u32, read_u64};
 use std::alloc::Global;
 use std::net::Ipv4Addr;
@@ -17,13 +17,16 @@ use std::net::Ipv4Addr;
 pub fn read_bindings<'a>(
     alloc: Global,
     pdu: &mut Cursor<'a>,
-) -> Result<Vec<Binding<'a>>, Refusal<BerError>>
+) -> Result<Vec<Binding<'a>>, ReadError<BerError>>
     ensures { ReadsField (Required VarBindList) (λ x. map binding_of x.items) NoMemory pdu.old result pdu.new }
 {
     pdu.open_sequence()?.read_all(alloc, read_binding)
 }
 
-fn read_binding<'a>(_alloc: Global, list: &mut Cursor<'a>) -> Result<Binding<'a>, Refusal<BerError>>
+fn read_binding<'a>(
+    _alloc: Global,
+    list: &mut Cursor<'a>,
+) -> Result<Binding<'a>, ReadError<BerError>>
     ensures { ReadsField (Required VarBind) binding_of Never list.old result list.new }
 {
     let mut binding = list.open_sequence()?;
@@ -33,7 +36,7 @@ fn read_binding<'a>(_alloc: Global, list: &mut Cursor<'a>) -> Result<Binding<'a>
     Ok(Binding { name, value })
 }
 
-fn read_value<'a>(binding: &mut Cursor<'a>) -> Result<Value<'a>, Refusal<BerError>>
+fn read_value<'a>(binding: &mut Cursor<'a>) -> Result<Value<'a>, ReadError<BerError>>
     ensures { ReadsField ObjectSyntax syntax_of Never binding.old result binding.new }
 {
     let before = *binding;

@@ -29,7 +29,7 @@ use Rattle.der_schema.specs.Steps.{label_of}
 use Rattle.der_schema.proofs.OfType.{AllNamed, named_more, no_elements, no_name, none_named, of_type}
 use Rattle.der_schema.proofs.OfType.{whole_at_end}
 use Rattle.der_elements.specs.declared.element.Element.{Element}
-use Rattle.der_elements.specs.declared.refusal.Refusal.{Refusal}
+use Rattle.der_elements.specs.declared.error.ElementError.{ElementError}
 use Rattle.der_elements.specs.declared.walk.Walk.{Walk}
 use Rattle.der_elements.specs.Visits.{Visited, Visits}
 use Rattle.der_elements.specs.Walked.{HasOctets, HasVisited, IsRefused, visited_of}
@@ -201,12 +201,12 @@ ends_whole sc r i vs None false named visits h same e = (
 ends_whole sc r i vs (Some p) b named visits h same e = (λ w. absurd (cc), λ t. absurd (h.names t))
 
 -- where the input is refused
-pub refused_fits : (sc : Root) (r : Rules) (i : List ℕ) (vs : List Visited) (named : Named) (w : Walk) (f : Refusal)
+pub refused_fits : (sc : Root) (r : Rules) (i : List ℕ) (vs : List Visited) (named : Named) (w : Walk) (f : ElementError)
     (left : Option ℕ) → named ≡ Refused (record { walk = w; refusal = f; left = left })
     → IsRefused all_extras r i vs w f → LeavesOrNot sc i vs left → Fits sc r i vs named
 refused_fits sc r i vs named w f left e refused leaves = subst (Fits sc r i vs) (sym e) (refused, leaves)
 
-pub refused_whole : (sc : Root) (r : Rules) (i : List ℕ) (named : Named) (w : Walk) (f : Refusal) (left : Option ℕ)
+pub refused_whole : (sc : Root) (r : Rules) (i : List ℕ) (named : Named) (w : Walk) (f : ElementError) (left : Option ℕ)
     → named ≡ Refused (record { walk = w; refusal = f; left = left })
     → ((us : List Visited) → Visits all_extras r 101 0 0 i us → ⊥) → (named ≡ Whole) ↔ IsOfType sc r i
 refused_whole sc r i named walk f left e never = (λ w. absurd (cc), λ t. absurd (no_elements sc r i never t))

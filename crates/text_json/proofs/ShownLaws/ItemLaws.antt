@@ -36,7 +36,7 @@ plain_or_null : (t : Option (List ℕ)) → has_float (text_or_null t) ≡ false
 plain_or_null None = refl
 plain_or_null (Some t) = refl
 
-either : (b : Bool) (c d : Data) → has_float c ≡ false → has_float d ≡ false → has_float (if b then c else d) ≡ false
+pub either : (b : Bool) (c d : Data) → has_float c ≡ false → has_float d ≡ false → has_float (if b then c else d) ≡ false
 either true c d e f = e
 either false c d e f = f
 

@@ -13,9 +13,10 @@ use Rattle.serde_json.specs.Written.{has_float, items_have_float}
 use Rattle.text_json.specs.declared.shown.object.Source.{Source}
 use Rattle.type_words.specs.Items.{Said}
 use Rattle.text_json.specs.Shown.Items.{AreItemLines}
-use Rattle.text_json.specs.Shown.Lines.{Line, Placed, is_deeper, line_on, lines_on, number_or_null, text_or_null, value_on, word, words_in}
+use Rattle.text_json.specs.Shown.Lines.{Line, Placed, is_deeper, line_on, lines_on, name_on, number_or_null, text_or_null, value_on, word, words_in}
 use Rattle.text_json.specs.Shown.Lines.{words_of, words_on}
 use Rattle.text_json.specs.Shown.Objects.{refused_data, shown_data, shown_members}
+use Rattle.text_json.proofs.ShownLaws.FormLaws.{plain_strings, plain_typed_or_null}
 use Rattle.text_json.proofs.ShownLaws.ItemLaws.{PlainLine, both, plain_items}
 
 abbrev pub Plain : List Data → Type 0
@@ -70,14 +71,10 @@ plain_words (l ∷ ls) all =
 plain_lines : (ts : List (List ℕ)) → All PlainLine (map line_on ts)
 plain_lines [] = All-nil PlainLine
 plain_lines (t ∷ ts) =
-    All-cons PlainLine (line_on t) (map line_on ts) (record { name = refl; kind = refl; value = plain_text (value_on t) }) (plain_lines ts)
+    All-cons PlainLine (line_on t) (map line_on ts) (record { name = refl; kind = refl; value = plain_typed_or_null (name_on t) (value_on t) }) (plain_lines ts)
 
 plain_on : (text : List ℕ) → Plain (words_in text)
 plain_on text = plain_words (lines_on text) (plain_lines (lines text))
-
-plain_strings : (ls : List (List ℕ)) → Plain (map string ls)
-plain_strings [] = refl
-plain_strings (l ∷ ls) = plain_strings ls
 
 pub plain_shown : (s : Source) (before words : List ℕ) (keeps : Bool) → has_float (shown_data s before words keeps) ≡ false
 plain_shown s before words keeps =

@@ -11,7 +11,7 @@ use Rattle.serde_json.specs.Written.{compact_text}
 use Rattle.hex.specs.Hex.{encode_lower}
 use Rattle.der_base.specs.declared.rules.Rules.{Rules}
 use Rattle.der_base.specs.declared.rules.Rules.TheVariants.{Ber}
-use Rattle.der_elements.specs.declared.refusal.Refusal.{Refusal}
+use Rattle.der_elements.specs.declared.error.ElementError.{ElementError}
 use Rattle.der_elements.specs.Visits.{Visited}
 use Rattle.der_print.specs.Quotes.{unquoted_text}
 use Rattle.der_print.specs.Values.{IsNameOf, identifier_text, is_ascii_text}
@@ -77,7 +77,7 @@ abbrev pub part : List ℕ → Visited → List Data
 part w v = if v.depth == 0 then text_data (content_in w v) ∷ [] else []
 
 abbrev pub AreParts : List ℕ → List Data → Type 0
-AreParts w ds = (vs : List Visited) × (end : Option Refusal) × EndsWith values_kept Ber w vs end
+AreParts w ds = (vs : List Visited) × (end : Option ElementError) × EndsWith values_kept Ber w vs end
     × (ds ≡ flat_map (part w) vs)
 
 -- a search filter (RFC 4515); octets that aren't UTF-8 would be replaced
@@ -127,7 +127,7 @@ AddsItem s x t = (l : Line) × IsItemLine x l × (map line_view t.lines.items �
 -- the lines of the items of octets by a type, up to the end of the octets or their first fault
 pub record HasItemLines (r : Rules) (sc : Schema) (i : List ℕ) (ls : List Line) : Type 0 where
   pub elements : List Visited
-  pub end : Option Refusal
+  pub end : Option ElementError
   pub visited : EndsWith all_extras r i elements end
   pub lines : AreItemLines (items_by_type (root_of sc) i elements) ls
 

@@ -6,6 +6,7 @@ use Rattle.std.specs.Str.{trim_start}
 use Rattle.std.specs.Str.Lines.{lines}
 use Rattle.serde_json.specs.Data.{Data, array, member, no_members, null, number, object, string, unsigned}
 use Rattle.serde_json.specs.View.{items_of}
+use Rattle.text_json.specs.Shown.Forms.{data_of, form_of, heading_data}
 
 -- how many octets of white space a line begins with
 abbrev pub indent : List ℕ → ℕ
@@ -34,6 +35,11 @@ abbrev pub text_or_null : Option (List ℕ) → Data
 text_or_null (Some text) = string text
 text_or_null None = null
 
+-- the value of the line with this label, by the type of its values, or that of the heading of an extension
+abbrev pub typed_or_null : List ℕ → Option (List ℕ) → Data
+typed_or_null label (Some text) = data_of (form_of label) text
+typed_or_null label None = heading_data label
+
 abbrev pub number_or_null : Option ℕ → Data
 number_or_null (Some n) = number (unsigned n)
 number_or_null None = null
@@ -54,7 +60,7 @@ line_on line = record {
   indent = indent line;
   name = string (name_on line);
   kind = null;
-  value = text_or_null (value_on line);
+  value = typed_or_null (name_on line) (value_on line);
   offset = None;
 }
 

@@ -1,7 +1,7 @@
 //! How an input matches the type that names its elements.
 ghost use Rattle.std.specs.Prelude.{◌≡◌, if◌then◌else◌, MatchOption};
 
-use der_elements::{Refusal, Walk};
+use der_elements::{ElementError, Walk};
 
 /// How an input matches the type that names its elements.
 #[derive(Drop)]
@@ -21,7 +21,7 @@ pub enum Named<'a> {
 pub struct RefusedInput<'a> {
     /// The walk where it stopped. It gives the path and the reason of the error.
     pub walk: Walk<'a>,
-    pub refusal: Refusal,
+    pub refusal: ElementError,
     /// The offset of the first element before the error that isn't in the type.
     pub left: Option<usize>,
 }
@@ -41,7 +41,7 @@ pub(crate) fn ended<'a>(left: Option<usize>, is_whole: bool) -> Named<'a>
 }
 
 /// How an input that isn't valid matches the type. The walk stopped with this error.
-pub(crate) fn refused<'a>(walk: Walk<'a>, refusal: Refusal, left: Option<usize>) -> Named<'a>
+pub(crate) fn refused<'a>(walk: Walk<'a>, refusal: ElementError, left: Option<usize>) -> Named<'a>
     ensures { result ≡ Named.Refused (record { walk = walk.entry; refusal = refusal; left = left }) }
 {
     Named::Refused(RefusedInput {

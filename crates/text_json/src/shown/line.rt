@@ -4,9 +4,11 @@ ghost use Rattle.std.specs.Option.{option_map};
 ghost use Rattle.std.specs.Str.Lossy.{utf8_lossy};
 ghost use Rattle.serde_json.specs.View.{view};
 ghost use Rattle.text_json.specs.Shown.Lines.{after_space, indent, line_on, lines_on, name_on, not_empty, text_or_null};
-ghost use Rattle.text_json.specs.Shown.Lines.{value_on};
+ghost use Rattle.text_json.specs.Shown.Lines.{typed_or_null, value_on};
 ghost use Rattle.text_json.specs.Shown.Words.{line_view};
 
+use crate::shown::form::form_of;
+use crate::shown::value::{heading, value_of};
 use serde_json::Value;
 use std::alloc::{AllocError, Global};
 
@@ -52,7 +54,7 @@ fn line_of(alloc: Global, text: &str) -> Result<Line, AllocError>
 {
     let parts = parts_of(text);
     let name = Value::try_from_str(alloc, parts.name)?;
-    let value = text_or_null(alloc, parts.value)?;
+    let value = typed_or_null(alloc, parts.name, parts.value)?;
     Ok(Line {
         indent: parts.indent,
         name,
@@ -60,6 +62,17 @@ fn line_of(alloc: Global, text: &str) -> Result<Line, AllocError>
         value,
         offset: None,
     })
+}
+
+/// The value of the line with this label, or the heading of an extension; null if it is neither.
+fn typed_or_null(alloc: Global, label: &str, text: Option<&str>) -> Result<Value, AllocError>
+    ensures { IfOk result (λ value. view value
+        ≡ typed_or_null label.now (option_map (λ t. t.now) text.entry)) }
+{
+    match text {
+        Some(text) => value_of(alloc, form_of(label.as_bytes()), text),
+        None => heading(alloc, label),
+    }
 }
 
 /// Splits the text of a line into its parts.

@@ -6,12 +6,12 @@ use Rattle.der_base.specs.declared.header.Class.TheVariants.{Universal}
 use Rattle.der_base.specs.declared.rules.Rules.TheVariants.{Der}
 use Rattle.der_base.specs.Numbers.{unsigned}
 use Rattle.der_cursor.specs.declared.cursor.Cursor.{Cursor}
-use Rattle.der_cursor.specs.declared.refusal.Refusal.{Refusal}
+use Rattle.der_cursor.specs.declared.error.ReadError.{ReadError}
 use Rattle.der_cursor.specs.Cursors.{OpensType, StartsAt, octets_left}
 use Rattle.der_cursor.proofs.KindLaws.{bits_one, integer_one, number_one}
 use Rattle.x509.specs.declared.crl.list.CertificateList.{CertificateList}
-use Rattle.x509.specs.declared.crl.refusal.Field.{Field}
-use Rattle.x509.specs.declared.crl.refusal.ListRefusal.{ListRefusal}
+use Rattle.x509.specs.declared.crl.error.Field.{Field}
+use Rattle.x509.specs.declared.crl.error.CertificateListError.{CertificateListError}
 use Rattle.x509.specs.Crl.Lists.{FieldFault, Signed, Tbs, certificate_list, certificate_list_of, entry_extensions, field_fault, list_refusal, next_update}
 use Rattle.x509.specs.Crl.Lists.{optional_revoked, revoked_certificate, revoked_certificates, second_version, tbs_cert_list, version, whole_list}
 use Rattle.x509.specs.Certificates.{Algorithm}
@@ -65,22 +65,22 @@ whole_exact = (list_exact, λ l. (tt, λ u. tt))
 ended : (i : List ℕ) (v : Signed) (rest : List ℕ) → spells whole_list i v rest → rest ≡ []
 ended i v rest (c, m, s, (u, m', e, d)) = d.1 ∙ e.1 ∙ e.0
 
-pub read_from_start : (i : List ℕ) (c : Cursor) (result : Result CertificateList ListRefusal) → StartsAt Der i c → ReadsToEnd field_fault certificate_list_of whole_list c result
+pub read_from_start : (i : List ℕ) (c : Cursor) (result : Result CertificateList CertificateListError) → StartsAt Der i c → ReadsToEnd field_fault certificate_list_of whole_list c result
     → ReadsExactly field_fault certificate_list_of whole_list i result
 read_from_start i c result s a = read_exactly field_fault certificate_list_of whole_list whole_exact ended i c result s a
 
 -- the fields of a list
-pub named_read : {T V : Type 0} {view : T → V} {f : Format Fault V} {old new : Cursor} (n : Field) (found : Result T (Refusal BerError)) {result : Result T ListRefusal}
+pub named_read : {T V : Type 0} {view : T → V} {f : Format Fault V} {old new : Cursor} (n : Field) (found : Result T (ReadError BerError)) {result : Result T CertificateListError}
     → NamesBy list_refusal n found result → ReadsBy fault_of view f old found new → ReadsBy field_fault view (named n f) old result new
 named_read n found e a = named_by field_fault list_refusal (λ n e. refl) n found e a
 
-pub opened_field : (n : Field) (p : Bool) (t : ℕ) {T V : Type 0} {view : T → V} {k : List ℕ → Format FieldFault V} {old inner mid new : Cursor} {result : Result T ListRefusal}
-    (found : Result Cursor (Refusal BerError)) → NamesBy list_refusal n found (Ok inner) → OpensType p t old found mid
+pub opened_field : (n : Field) (p : Bool) (t : ℕ) {T V : Type 0} {view : T → V} {k : List ℕ → Format FieldFault V} {old inner mid new : Cursor} {result : Result T CertificateListError}
+    (found : Result Cursor (ReadError BerError)) → NamesBy list_refusal n found (Ok inner) → OpensType p t old found mid
     → (IsContent inner mid → ReadsBy field_fault view (k (octets_left inner)) mid result new)
     → ReadsBy field_fault view (named n (element Universal p t) >>= k) old result new
 opened_field n p t found e o a = opened_by field_fault list_refusal (λ n e. refl) n p t found e o a
 
-pub shorter_field : (n : Field) (p : Bool) (t : ℕ) (inner : Cursor) {old mid : Cursor} (found : Result Cursor (Refusal BerError)) → NamesBy list_refusal n found (Ok inner) → OpensType p t old found mid → IsShorter old mid
+pub shorter_field : (n : Field) (p : Bool) (t : ℕ) (inner : Cursor) {old mid : Cursor} (found : Result Cursor (ReadError BerError)) → NamesBy list_refusal n found (Ok inner) → OpensType p t old found mid → IsShorter old mid
 shorter_field n p t inner found e o = shorter_by field_fault list_refusal (λ n e. refl) n p t inner found e o
 
 pub not_second : (n : ℕ) → n ≢ 1 → pos n ≢ pos 1

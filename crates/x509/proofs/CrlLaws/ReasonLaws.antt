@@ -3,7 +3,7 @@ use Rattle.std.proofs.Common.{◌≡◌, ◌≢◌, ℕ, Option, Some, None, Lis
 use Rattle.std.specs.Prelude.{◌==◌, if◌then◌else◌}
 use Rattle.der_base.specs.declared.error.Error.{Error as BerError}
 use Rattle.der_cursor.specs.declared.cursor.Cursor.{Cursor}
-use Rattle.der_cursor.specs.declared.refusal.Refusal.{Refusal}
+use Rattle.der_cursor.specs.declared.error.ReadError.{ReadError}
 use Rattle.der_cursor.specs.Cursors.{rules_of}
 use Rattle.der_cursor.specs.Formats.{Format, Never, Required, ReadsField, ReadsWhole}
 use Rattle.x509.specs.Certificates.{ExtensionValue, extension}
@@ -83,11 +83,11 @@ module _ {left rest all : List ℕ} {x : ExtensionValue} (f : FirstFrom left all
   passed_to n v (here {rest = r} {x = y} t h) = absurd ((subst (λ z. IsReasonOf z None) (one_extension left x y rest r s t).0 n) h.0)
   passed_to n v (later {rest = r} {x = y} t m h) = subst (λ z. IsFirstReason z v) (sym (one_extension left x y rest r s t).1) h
 
-  passed_none : ReadsWhole (IsReasonOf x) (λ v. v) (Never {E = Refusal BerError}) (Ok None) → FirstFrom rest all
+  passed_none : ReadsWhole (IsReasonOf x) (λ v. v) (Never {E = ReadError BerError}) (Ok None) → FirstFrom rest all
   passed_none k = record { back = λ v h. f.back v (later s k.found h); only = λ v h. passed_to k.found v (f.only v h) }
 
-  pub passed : {o : Option Reason} → ReadsWhole (IsReasonOf x) (λ v. v) (Never {E = Refusal BerError}) (Ok o) → o ≡ None → FirstFrom rest all
-  passed k e = passed_none (subst (λ z. ReadsWhole (IsReasonOf x) (λ v. v) (Never {E = Refusal BerError}) (Ok z)) e k)
+  pub passed : {o : Option Reason} → ReadsWhole (IsReasonOf x) (λ v. v) (Never {E = ReadError BerError}) (Ok o) → o ≡ None → FirstFrom rest all
+  passed k e = passed_none (subst (λ z. ReadsWhole (IsReasonOf x) (λ v. v) (Never {E = ReadError BerError}) (Ok z)) e k)
 
   -- it has one
   has_to : (v : Reason) → ((w : Option Reason) → IsReasonOf x w → Some v ≡ w) → (w : Option Reason) → IsFirstReason left w → Some v ≡ w
@@ -95,11 +95,11 @@ module _ {left rest all : List ℕ} {x : ExtensionValue} (f : FirstFrom left all
   has_to v k w (here {rest = r} {x = y} {v = u} t h) = k (Some u) (subst (λ z. IsReasonOf z (Some u)) (sym (one_extension left x y rest r s t).0) h)
   has_to v k w (later {rest = r} {x = y} t m h) = let q : Some v ≡ None = k None (subst (λ z. IsReasonOf z None) (sym (one_extension left x y rest r s t).0) m) in absurd (let e : ⊥ = cc in e)
 
-  has_some : (v : Reason) → ReadsWhole (IsReasonOf x) (λ v. v) (Never {E = Refusal BerError}) (Ok (Some v)) → ReadsWhole (IsFirstReason all) (λ v. v) (Never {E = Refusal BerError}) (Ok (Some v))
+  has_some : (v : Reason) → ReadsWhole (IsReasonOf x) (λ v. v) (Never {E = ReadError BerError}) (Ok (Some v)) → ReadsWhole (IsFirstReason all) (λ v. v) (Never {E = ReadError BerError}) (Ok (Some v))
   has_some v k = record { found = f.back (Some v) (here s k.found); only = λ w z. has_to v k.only w (f.only w z) }
 
-  pub has_reason : {v : Reason} {o : Option Reason} → ReadsWhole (IsReasonOf x) (λ v. v) (Never {E = Refusal BerError}) (Ok o) → o ≡ Some v → ReadsWhole (IsFirstReason all) (λ v. v) (Never {E = Refusal BerError}) (Ok (Some v))
-  has_reason {v} k e = has_some v (subst (λ z. ReadsWhole (IsReasonOf x) (λ v. v) (Never {E = Refusal BerError}) (Ok z)) e k)
+  pub has_reason : {v : Reason} {o : Option Reason} → ReadsWhole (IsReasonOf x) (λ v. v) (Never {E = ReadError BerError}) (Ok o) → o ≡ Some v → ReadsWhole (IsFirstReason all) (λ v. v) (Never {E = ReadError BerError}) (Ok (Some v))
+  has_reason {v} k e = has_some v (subst (λ z. ReadsWhole (IsReasonOf x) (λ v. v) (Never {E = ReadError BerError}) (Ok z)) e k)
 
   -- it is refused
   refused_to : ((w : Option Reason) → IsReasonOf x w → ⊥) → (w : Option Reason) → IsFirstReason left w → ⊥
@@ -107,7 +107,7 @@ module _ {left rest all : List ℕ} {x : ExtensionValue} (f : FirstFrom left all
   refused_to k w (here {rest = r} {x = y} {v = u} t h) = k (Some u) (subst (λ z. IsReasonOf z (Some u)) (sym (one_extension left x y rest r s t).0) h)
   refused_to k w (later {rest = r} {x = y} t m h) = k None (subst (λ z. IsReasonOf z None) (sym (one_extension left x y rest r s t).0) m)
 
-  pub reason_refused : {e : Refusal BerError} → ReadsWhole (IsReasonOf x) (λ v. v) Never (Err e) → ReadsWhole (IsFirstReason all) (λ v. v) Never (Err e)
+  pub reason_refused : {e : ReadError BerError} → ReadsWhole (IsReasonOf x) (λ v. v) Never (Err e) → ReadsWhole (IsFirstReason all) (λ v. v) Never (Err e)
   reason_refused k = record { found = tt; only = λ w z. refused_to k.only w (f.only w z) }
 
 -- none is left
@@ -116,5 +116,5 @@ none_to b w (absent c) = refl
 none_to b w (here {rest = r} {x = y} t h) = absurd (b y r t)
 none_to b w (later {rest = r} {x = y} t m h) = absurd (b y r t)
 
-pub no_reason : {left all : List ℕ} → FirstFrom left all → BeginsWithNone extension left → ReadsWhole (IsFirstReason all) (λ v. v) (Never {E = Refusal BerError}) (Ok None)
+pub no_reason : {left all : List ℕ} → FirstFrom left all → BeginsWithNone extension left → ReadsWhole (IsFirstReason all) (λ v. v) (Never {E = ReadError BerError}) (Ok None)
 no_reason f b = record { found = f.back None (absent b); only = λ w z. none_to b w (f.only w z) }

@@ -6,7 +6,7 @@ use Rattle.der_base.specs.declared.error.Error.{Error as BerError}
 use Rattle.der_base.specs.declared.header.Class.TheVariants.{Universal}
 use Rattle.der_base.specs.declared.rules.Rules.TheVariants.{Der}
 use Rattle.der_cursor.specs.declared.cursor.Cursor.{Cursor}
-use Rattle.der_cursor.specs.declared.refusal.Refusal.{Refusal}
+use Rattle.der_cursor.specs.declared.error.ReadError.{ReadError}
 use Rattle.der_cursor.specs.Cursors.{StartsAt, octets_left}
 use Rattle.x509.specs.Certificates.{ExtensionValue, extension}
 use Rattle.x509.specs.Formats.{Fault, Format, Items, each, more, none, spells}
@@ -20,7 +20,7 @@ use Rattle.x509.specs.Partial.Partials.{GoesOn, IsTaken}
 
 -- a field that a reader reads where it follows
 module _ {T V : Type 0} (view : T → V) (f : Format Fault V) (x : IsExact f) where
-  field_of : (found : Result T (Refusal BerError)) (old mid new : Option (List ℕ)) (c after : Cursor) (result : Option T) → IsTaken old (Some c) mid → ReadsBy fault_of view f c found after
+  field_of : (found : Result T (ReadError BerError)) (old mid new : Option (List ℕ)) (c after : Cursor) (result : Option T) → IsTaken old (Some c) mid → ReadsBy fault_of view f c found after
       → GoesOn after found mid result new → Field f old (option_map view result) new
   field_of (Ok y) old mid new c after result t a g =
       let (i, e, s) = t.0 in
@@ -30,7 +30,7 @@ module _ {T V : Type 0} (view : T → V) (f : Format Fault V) (x : IsExact f) wh
       let (i, e, s) = t.0 in
       subst (λ o. Field f o (option_map view result) new) (sym e) (subst (λ v. Field f (Some i) (option_map view v) new) (sym g.0) (no_item x s a, g.1 ∙ t.1))
 
-pub follows : {T V : Type 0} {view : T → V} {f : Format Fault V} {old mid : Option (List ℕ)} {c after : Cursor} {found : Result T (Refusal BerError)} (result : Option T) (new : Option (List ℕ)) → IsExact f
+pub follows : {T V : Type 0} {view : T → V} {f : Format Fault V} {old mid : Option (List ℕ)} {c after : Cursor} {found : Result T (ReadError BerError)} (result : Option T) (new : Option (List ℕ)) → IsExact f
     → IsTaken old (Some c) mid → ReadsBy fault_of view f c found after → GoesOn after found mid result new → Field f old (option_map view result) new
 follows {view = view} {f = f} {old = old} {mid = mid} {c = c} {after = after} {found = found} result new x t a g = field_of view f x found old mid new c after result t a g
 
@@ -38,7 +38,7 @@ map_same : {T : Type 0} (o : Option T) → option_map (λ v. v) o ≡ o
 map_same (Some v) = refl
 map_same None = refl
 
-pub follows_same : {V : Type 0} {f : Format Fault V} {old mid : Option (List ℕ)} {c after : Cursor} {found : Result V (Refusal BerError)} (result : Option V) (new : Option (List ℕ)) → IsExact f
+pub follows_same : {V : Type 0} {f : Format Fault V} {old mid : Option (List ℕ)} {c after : Cursor} {found : Result V (ReadError BerError)} (result : Option V) (new : Option (List ℕ)) → IsExact f
     → IsTaken old (Some c) mid → ReadsBy fault_of (λ v. v) f c found after → GoesOn after found mid result new → Field f old result new
 follows_same {f = f} {old = old} result new x t a g = subst (λ v. Field f old v new) (map_same result) (follows result new x t a g)
 

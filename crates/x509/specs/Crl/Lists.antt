@@ -7,16 +7,16 @@ use Rattle.der_base.specs.declared.header.Class.TheVariants.{Universal}
 use Rattle.der_base.specs.declared.rules.Rules.TheVariants.{Der}
 use Rattle.der_base.specs.Numbers.{unsigned}
 use Rattle.der_base.specs.Refusal.{wrong_value}
-use Rattle.der_cursor.specs.declared.refusal.Refusal.{Refusal}
+use Rattle.der_cursor.specs.declared.error.ReadError.{ReadError}
 use Rattle.der_cursor.specs.Elements.{IsNext}
 use Rattle.der_values.specs.Kinds.{bit_strings, integers, numbers}
 use Rattle.x509.specs.declared.crl.entry.RevokedCertificate.{RevokedCertificate}
 use Rattle.x509.specs.declared.crl.list.CertificateList.{CertificateList}
 use Rattle.x509.specs.declared.crl.list.TbsCertList.{TbsCertList}
 use Rattle.x509.specs.declared.crl.lists.RevokedIter.{RevokedIter}
-use Rattle.x509.specs.declared.crl.refusal.Field.{Field}
-use Rattle.x509.specs.declared.crl.refusal.Field.TheVariants as field
-use Rattle.x509.specs.declared.crl.refusal.ListRefusal.{ListRefusal}
+use Rattle.x509.specs.declared.crl.error.Field.{Field}
+use Rattle.x509.specs.declared.crl.error.Field.TheVariants as field
+use Rattle.x509.specs.declared.crl.error.CertificateListError.{CertificateListError}
 use Rattle.x509.specs.declared.certificate.Version.{Version}
 use Rattle.x509.specs.declared.certificate.Version.TheVariants.{V1, V2}
 use Rattle.x509.specs.declared.time.Time.{Time}
@@ -168,8 +168,8 @@ abbrev pub entries_left : RevokedIter → List ℕ
 entries_left r = r.left.now
 
 -- a refusal of a field, and what it says
-abbrev pub list_refusal : Field → Refusal BerError → ListRefusal
+abbrev pub list_refusal : Field → ReadError BerError → CertificateListError
 list_refusal n e = record { field = n; refusal = e }
 
-abbrev pub field_fault : ListRefusal → FieldFault
+abbrev pub field_fault : CertificateListError → FieldFault
 field_fault e = (e.field, fault_of e.refusal)

@@ -5,7 +5,7 @@ use Rattle.der_base.specs.declared.error.Error.{Error as BerError}
 use Rattle.der_base.specs.declared.header.Class.TheVariants.{ContextSpecific, Universal}
 use Rattle.der_base.specs.declared.rules.Rules.TheVariants.{Der}
 use Rattle.der_cursor.specs.declared.cursor.Cursor.{Cursor}
-use Rattle.der_cursor.specs.declared.refusal.Refusal.{Refusal}
+use Rattle.der_cursor.specs.declared.error.ReadError.{ReadError}
 use Rattle.der_cursor.specs.Cursors.{StartsAt, octets_left as octets_left_of}
 use Rattle.der_values.specs.Kinds.{bit_strings, integers}
 use Rattle.x509.specs.declared.certificate.Version.{Version}
@@ -114,7 +114,7 @@ IsTaken old taken new = MatchOption taken (old ≡ None) (λ c. (i : List ℕ) �
     × (new ≡ None)
 
 -- what a reader found is returned, and what it left follows; or no value, and what was left stays
-abbrev pub GoesOn : {T : Type 0} → Cursor → Result T (Refusal BerError) → Option (List ℕ) → Option T → Option (List ℕ)
+abbrev pub GoesOn : {T : Type 0} → Cursor → Result T (ReadError BerError) → Option (List ℕ) → Option T → Option (List ℕ)
     → Type 0
 GoesOn c (Ok x) old value new = (value ≡ Some x) × (new ≡ Some (octets_left_of c))
 GoesOn c (Err e) old value new = (value ≡ None) × (new ≡ old)

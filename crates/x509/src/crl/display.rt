@@ -1,22 +1,22 @@
 //! The text of an error.
-use crate::crl::refusal::{Field, ListRefusal};
+use crate::crl::error::{CertificateListError, Field};
 use std::error::Error;
 use std::fmt;
 
 /// The field, the offset and the reason: "tbsCertList.version at 4: wrong value".
-impl fmt::Display for ListRefusal {
+impl fmt::Display for CertificateListError {
     fn fmt<W: fmt::Write>(&self, f: &mut fmt::Formatter<W>) -> fmt::Result {
         write!(f, "{} {}", self.field, self.refusal)
     }
 }
 
-impl fmt::Debug for ListRefusal {
+impl fmt::Debug for CertificateListError {
     fn fmt<W: fmt::Write>(&self, f: &mut fmt::Formatter<W>) -> fmt::Result {
         write!(f, "{self}")
     }
 }
 
-impl Error for ListRefusal {}
+impl Error for CertificateListError {}
 
 /// The path of the field, in the names of the ASN.1 of RFC 5280 5.1.
 impl fmt::Display for Field {

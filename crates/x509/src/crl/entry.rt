@@ -11,7 +11,7 @@ use crate::parts::{read_extension_list, read_time};
 use crate::{Extensions, Time};
 use der_base::error::BerError;
 use der_base::header::{Class, Tag};
-use der_cursor::{Cursor, Refusal};
+use der_cursor::{Cursor, ReadError};
 
 /// The entries of a CRL, as their checked octets.
 #[derive(Clone, Copy)]
@@ -31,7 +31,7 @@ pub struct RevokedCertificate<'a> {
 
 impl RevokedCertificate<'_> {
     /// The reason, by the first reasonCode extension (RFC 5280 5.3.1); None if there is none.
-    pub fn reason(&self) -> Result<Option<Reason>, Refusal<BerError>>
+    pub fn reason(&self) -> Result<Option<Reason>, ReadError<BerError>>
         ensures { ReadsWhole (IsFirstReason self.now.crl_entry_extensions.octets.now) (λ v. v) Never result }
     {
         for extension in self.crl_entry_extensions.iter() {
@@ -46,7 +46,7 @@ impl RevokedCertificate<'_> {
 /// Reads a SEQUENCE OF entries.
 pub(crate) fn read_revoked_certificates<'a>(
     fields: &mut Cursor<'a>,
-) -> Result<RevokedCertificates<'a>, Refusal<BerError>>
+) -> Result<RevokedCertificates<'a>, ReadError<BerError>>
     ensures { ReadsBy fault_of (λ r. r.octets.now) revoked_certificates fields.old result fields.new }
 {
     let list = fields.open_sequence()?;
@@ -57,7 +57,7 @@ pub(crate) fn read_revoked_certificates<'a>(
 }
 
 /// Reads entries to the end of a list.
-fn check_entries(mut list: Cursor<'_>) -> Result<(), Refusal<BerError>>
+fn check_entries(mut list: Cursor<'_>) -> Result<(), ReadError<BerError>>
     ensures { ReadsToEnd fault_of (λ u. u) (list_of revoked_certificate) list.entry result }
 {
     while !list.is_empty() {
@@ -69,7 +69,7 @@ fn check_entries(mut list: Cursor<'_>) -> Result<(), Refusal<BerError>>
 /// Reads an entry.
 pub(crate) fn read_revoked_certificate<'a>(
     list: &mut Cursor<'a>,
-) -> Result<RevokedCertificate<'a>, Refusal<BerError>>
+) -> Result<RevokedCertificate<'a>, ReadError<BerError>>
     ensures reads { ReadsBy fault_of revoked_of revoked_certificate list.old result list.new }
     ensures shorter { OnOk result (IsShorter list.old list.new) }
 {
@@ -86,7 +86,7 @@ pub(crate) fn read_revoked_certificate<'a>(
 }
 
 /// Reads the extensions of an entry, if a SEQUENCE is next.
-fn read_entry_extensions<'a>(parts: &mut Cursor<'a>) -> Result<Extensions<'a>, Refusal<BerError>>
+fn read_entry_extensions<'a>(parts: &mut Cursor<'a>) -> Result<Extensions<'a>, ReadError<BerError>>
     ensures { ReadsBy fault_of (λ e. e.octets.now) entry_extensions parts.old result parts.new }
 {
     if !parts.is_next(Class::Universal, Tag::Sequence) {

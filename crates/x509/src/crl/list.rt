@@ -8,12 +8,12 @@ ghost use Rattle.x509.specs.Crl.Lists.{whole_list};
 ghost use Rattle.x509.specs.Readers.{IsShorter, ReadsBy, ReadsExactly, fault_of};
 
 use crate::crl::entry::{RevokedCertificates, read_revoked_certificates};
-use crate::crl::refusal::{Field, ListRefusal};
+use crate::crl::error::{CertificateListError, Field};
 use crate::parts::{read_algorithm, read_extensions, read_name, read_time};
 use crate::{AlgorithmIdentifier, Extensions, Name, Time, Version};
 use der_base::error::BerError;
 use der_base::header::{Class, Tag};
-use der_cursor::{Cursor, Refusal};
+use der_cursor::{Cursor, ReadError};
 use der_values::BitString;
 
 /// A CRL. Octets are slices of the input.
@@ -43,7 +43,7 @@ pub struct TbsCertList<'a> {
 }
 
 /// Reads a CRL; trailing data is an error. The signature isn't verified.
-pub fn read_certificate_list(octets: &[u8]) -> Result<CertificateList<'_>, ListRefusal>
+pub fn read_certificate_list(octets: &[u8]) -> Result<CertificateList<'_>, CertificateListError>
     ensures { ReadsExactly field_fault certificate_list_of whole_list octets.now result }
 {
     let mut input = Cursor::new(octets);
@@ -53,7 +53,7 @@ pub fn read_certificate_list(octets: &[u8]) -> Result<CertificateList<'_>, ListR
 }
 
 /// Reads a CertificateList.
-fn read_parts<'a>(input: &mut Cursor<'a>) -> Result<CertificateList<'a>, ListRefusal>
+fn read_parts<'a>(input: &mut Cursor<'a>) -> Result<CertificateList<'a>, CertificateListError>
     ensures { ReadsBy field_fault certificate_list_of certificate_list input.old result input.new }
 {
     let mut parts = Field::CertificateList.of(input.open_sequence())?;
@@ -72,7 +72,7 @@ fn read_parts<'a>(input: &mut Cursor<'a>) -> Result<CertificateList<'a>, ListRef
 }
 
 /// Reads a TBSCertList.
-fn read_tbs<'a>(parts: &mut Cursor<'a>) -> Result<TbsCertList<'a>, ListRefusal>
+fn read_tbs<'a>(parts: &mut Cursor<'a>) -> Result<TbsCertList<'a>, CertificateListError>
     ensures reads { ReadsBy field_fault tbs_of tbs_cert_list parts.old result parts.new }
     ensures shorter { OnOk result (IsShorter parts.old parts.new) }
 {
@@ -97,7 +97,7 @@ fn read_tbs<'a>(parts: &mut Cursor<'a>) -> Result<TbsCertList<'a>, ListRefusal>
 }
 
 /// Reads a Version, which is absent or 2.
-fn read_version(fields: &mut Cursor<'_>) -> Result<Version, Refusal<BerError>>
+fn read_version(fields: &mut Cursor<'_>) -> Result<Version, ReadError<BerError>>
     ensures { ReadsBy fault_of (λ v. v) version fields.old result fields.new }
 {
     if !fields.is_next(Class::Universal, Tag::Integer) {
@@ -107,7 +107,7 @@ fn read_version(fields: &mut Cursor<'_>) -> Result<Version, Refusal<BerError>>
 }
 
 /// Reads the number of version 2.
-fn read_second_version(fields: &mut Cursor<'_>) -> Result<Version, Refusal<BerError>>
+fn read_second_version(fields: &mut Cursor<'_>) -> Result<Version, ReadError<BerError>>
     ensures { ReadsBy fault_of (λ v. v) second_version fields.old result fields.new }
 {
     let before = *fields;
@@ -119,7 +119,7 @@ fn read_second_version(fields: &mut Cursor<'_>) -> Result<Version, Refusal<BerEr
 }
 
 /// Reads a time, if one is next.
-fn read_next_update(fields: &mut Cursor<'_>) -> Result<Option<Time>, Refusal<BerError>>
+fn read_next_update(fields: &mut Cursor<'_>) -> Result<Option<Time>, ReadError<BerError>>
     ensures { ReadsBy fault_of (λ t. t) next_update fields.old result fields.new }
 {
     if !is_time_next(fields) {
@@ -139,7 +139,7 @@ fn is_time_next(fields: &Cursor<'_>) -> bool
 /// Reads the entries, if a SEQUENCE is next.
 fn read_revoked<'a>(
     fields: &mut Cursor<'a>,
-) -> Result<Option<RevokedCertificates<'a>>, Refusal<BerError>>
+) -> Result<Option<RevokedCertificates<'a>>, ReadError<BerError>>
     ensures { ReadsBy fault_of (option_map (λ r. r.octets.now)) optional_revoked fields.old result fields.new }
 {
     if !fields.is_next(Class::Universal, Tag::Sequence) {

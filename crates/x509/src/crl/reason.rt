@@ -8,7 +8,7 @@ ghost use Rattle.x509.specs.Certificates.{extension_of};
 use crate::Extension;
 use der_base::error::BerError;
 use der_base::header::{Class, Tag};
-use der_cursor::{Cursor, Refusal};
+use der_cursor::{Cursor, ReadError};
 
 /// The content octets of 2.5.29.21, the reasonCode (RFC 5280 5.3.1).
 const REASON_CODE: &[u8] = b"\x55\x1d\x15";
@@ -57,7 +57,7 @@ impl Reason {
 }
 
 /// The reason, if this extension is a reasonCode (RFC 5280 5.3.1). Offsets of errors count from the start of its value.
-pub fn reason_of(extension: &Extension<'_>) -> Result<Option<Reason>, Refusal<BerError>>
+pub fn reason_of(extension: &Extension<'_>) -> Result<Option<Reason>, ReadError<BerError>>
     ensures { ReadsWhole (IsReasonOf (extension_of extension.now)) (λ v. v) Never result }
 {
     let identifier = extension.identifier;
@@ -69,7 +69,7 @@ pub fn reason_of(extension: &Extension<'_>) -> Result<Option<Reason>, Refusal<Be
 
 /// Reads the value of a reasonCode by DER. Trailing data is an error, and so is a number without a name, such as 7.
 /// Incomplete iff the octets end within the ENUMERATED.
-pub fn read_reason(octets: &[u8]) -> Result<Reason, Refusal<BerError>>
+pub fn read_reason(octets: &[u8]) -> Result<Reason, ReadError<BerError>>
     ensures { ReadsInput Rules.Der CRLReason (λ v. v) Never octets.now result }
 {
     match read_whole_reason(octets) {
@@ -83,7 +83,7 @@ pub fn read_reason(octets: &[u8]) -> Result<Reason, Refusal<BerError>>
     }
 }
 
-fn read_whole_reason(octets: &[u8]) -> Result<Reason, Refusal<BerError>>
+fn read_whole_reason(octets: &[u8]) -> Result<Reason, ReadError<BerError>>
     ensures { ReadsWhole (ReasonCode Rules.Der octets.now) (λ v. v) Never result }
 {
     let mut value = Cursor::new(octets);
@@ -92,7 +92,7 @@ fn read_whole_reason(octets: &[u8]) -> Result<Reason, Refusal<BerError>>
     Ok(reason)
 }
 
-fn read_number(value: &mut Cursor<'_>) -> Result<Reason, Refusal<BerError>>
+fn read_number(value: &mut Cursor<'_>) -> Result<Reason, ReadError<BerError>>
     ensures { ReadsField (Required CRLReason) (λ v. v) Never value.old result value.new }
 {
     let before = *value;

@@ -18,7 +18,7 @@ use crate::parts::{
 use crate::{AlgorithmIdentifier, Extensions, Name, SubjectPublicKeyInfo, Validity, Version};
 use der_base::error::BerError;
 use der_base::header::{Class, Tag};
-use der_cursor::{Cursor, Refusal};
+use der_cursor::{Cursor, ReadError};
 use der_values::BitString;
 
 /// The octets of the fields that aren't read yet; None after an invalid field.
@@ -120,7 +120,7 @@ impl<'a> Fields<'a> {
     }
 
     /// The value, after which the next field is read. None if the field is invalid.
-    fn after<T>(&mut self, fields: Cursor<'a>, found: Result<T, Refusal<BerError>>) -> Option<T>
+    fn after<T>(&mut self, fields: Cursor<'a>, found: Result<T, ReadError<BerError>>) -> Option<T>
         ensures { GoesOn fields.entry found (octets_left self.old) result (octets_left self.new) }
     {
         match found {

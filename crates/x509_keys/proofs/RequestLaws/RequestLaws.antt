@@ -7,12 +7,12 @@ use Rattle.der_base.specs.declared.header.Class.TheVariants.{Universal}
 use Rattle.der_base.specs.declared.rules.Rules.TheVariants.{Der}
 use Rattle.der_base.specs.Numbers.{unsigned}
 use Rattle.der_cursor.specs.declared.cursor.Cursor.{Cursor}
-use Rattle.der_cursor.specs.declared.refusal.Refusal.{Refusal}
+use Rattle.der_cursor.specs.declared.error.ReadError.{ReadError}
 use Rattle.der_cursor.specs.Cursors.{OpensType, ReadsAnyAt, StartsAt, octets_left}
 use Rattle.der_cursor.specs.Elements.{Element, element_of}
 use Rattle.der_cursor.proofs.KindLaws.{bits_one, identifier_one, number_one}
-use Rattle.x509_keys.specs.declared.request.refusal.Field.{Field}
-use Rattle.x509_keys.specs.declared.request.refusal.RequestRefusal.{RequestRefusal}
+use Rattle.x509_keys.specs.declared.request.error.Field.{Field}
+use Rattle.x509_keys.specs.declared.request.error.CertificationRequestError.{CertificationRequestError}
 use Rattle.x509_keys.specs.declared.request.CertificationRequest.{CertificationRequest}
 use Rattle.x509_keys.specs.Request.Requests.{FieldFault, Info, Signed, attribute, attributes, challenge_password, extension_request, field_fault, request, request_info}
 use Rattle.x509_keys.specs.Request.Requests.{request_of, request_refusal, values, version, whole_request}
@@ -56,14 +56,14 @@ extension_request_exact = (extensions_exact, λ e. (tt, λ u. tt))
 ended : (i : List ℕ) (v : Signed) (rest : List ℕ) → spells whole_request i v rest → rest ≡ []
 ended i v rest (c, m, s, (u, m', e, d)) = d.1 ∙ e.1 ∙ e.0
 
-pub read_from_start : (i : List ℕ) (c : Cursor) (result : Result CertificationRequest RequestRefusal) → StartsAt Der i c → ReadsToEnd field_fault request_of whole_request c result
+pub read_from_start : (i : List ℕ) (c : Cursor) (result : Result CertificationRequest CertificationRequestError) → StartsAt Der i c → ReadsToEnd field_fault request_of whole_request c result
     → ReadsExactly field_fault request_of whole_request i result
 read_from_start i c result s a = read_exactly field_fault request_of whole_request whole_exact ended i c result s a
 
 extensions_ended : (i : List ℕ) (v : List ℕ) (rest : List ℕ) → spells extension_request i v rest → rest ≡ []
 extensions_ended i v rest (c, m, s, (u, m', e, d)) = d.1 ∙ e.1 ∙ e.0
 
-pub extensions_from_start : (i : List ℕ) (c : Cursor) (result : Result Extensions (Refusal BerError)) → StartsAt Der i c → ReadsToEnd fault_of (λ e. e.octets.now) extension_request c result
+pub extensions_from_start : (i : List ℕ) (c : Cursor) (result : Result Extensions (ReadError BerError)) → StartsAt Der i c → ReadsToEnd fault_of (λ e. e.octets.now) extension_request c result
     → ReadsExactly fault_of (λ e. e.octets.now) extension_request i result
 extensions_from_start i c result s a = read_exactly fault_of (λ e. e.octets.now) extension_request extension_request_exact extensions_ended i c result s a
 
@@ -73,26 +73,26 @@ challenge_password_exact = (tt, λ e. (tt, λ u. tt))
 password_ended : (i : List ℕ) (v : Element) (rest : List ℕ) → spells challenge_password i v rest → rest ≡ []
 password_ended i v rest (c, m, s, (u, m', e, d)) = d.1 ∙ e.1 ∙ e.0
 
-pub password_from_start : (i : List ℕ) (c : Cursor) (result : Result Any (Refusal BerError)) → StartsAt Der i c → ReadsToEnd fault_of element_of challenge_password c result
+pub password_from_start : (i : List ℕ) (c : Cursor) (result : Result Any (ReadError BerError)) → StartsAt Der i c → ReadsToEnd fault_of element_of challenge_password c result
     → ReadsExactly fault_of element_of challenge_password i result
 password_from_start i c result s a = read_exactly fault_of element_of challenge_password challenge_password_exact password_ended i c result s a
 
 -- the fields of a request
-pub named_read : {T V : Type 0} {view : T → V} {f : Format Fault V} {old new : Cursor} (n : Field) (found : Result T (Refusal BerError)) {result : Result T RequestRefusal}
+pub named_read : {T V : Type 0} {view : T → V} {f : Format Fault V} {old new : Cursor} (n : Field) (found : Result T (ReadError BerError)) {result : Result T CertificationRequestError}
     → NamesBy request_refusal n found result → ReadsBy fault_of view f old found new → ReadsBy field_fault view (named n f) old result new
 named_read n found e a = named_by field_fault request_refusal (λ n e. refl) n found e a
 
-pub opened_field : (n : Field) (p : Bool) (t : ℕ) {T V : Type 0} {view : T → V} {k : List ℕ → Format FieldFault V} {old inner mid new : Cursor} {result : Result T RequestRefusal}
-    (found : Result Cursor (Refusal BerError)) → NamesBy request_refusal n found (Ok inner) → OpensType p t old found mid
+pub opened_field : (n : Field) (p : Bool) (t : ℕ) {T V : Type 0} {view : T → V} {k : List ℕ → Format FieldFault V} {old inner mid new : Cursor} {result : Result T CertificationRequestError}
+    (found : Result Cursor (ReadError BerError)) → NamesBy request_refusal n found (Ok inner) → OpensType p t old found mid
     → (IsContent inner mid → ReadsBy field_fault view (k (octets_left inner)) mid result new)
     → ReadsBy field_fault view (named n (element Universal p t) >>= k) old result new
 opened_field n p t found e o a = opened_by field_fault request_refusal (λ n e. refl) n p t found e o a
 
-pub shorter_field : (n : Field) (p : Bool) (t : ℕ) (inner : Cursor) {old mid : Cursor} (found : Result Cursor (Refusal BerError)) → NamesBy request_refusal n found (Ok inner) → OpensType p t old found mid → IsShorter old mid
+pub shorter_field : (n : Field) (p : Bool) (t : ℕ) (inner : Cursor) {old mid : Cursor} (found : Result Cursor (ReadError BerError)) → NamesBy request_refusal n found (Ok inner) → OpensType p t old found mid → IsShorter old mid
 shorter_field n p t inner found e o = shorter_by field_fault request_refusal (λ n e. refl) n p t inner found e o
 
 -- a value is some octets
-pub any_shortens : (old new : Cursor) (result : Result Any (Refusal BerError)) → ReadsAnyAt old result new → OnOk result (IsShorter old new)
+pub any_shortens : (old new : Cursor) (result : Result Any (ReadError BerError)) → ReadsAnyAt old result new → OnOk result (IsShorter old new)
 any_shortens old new (Ok x) a = any_shorter a
 any_shortens old new (Err e) a = tt
 

@@ -6,13 +6,13 @@ use Rattle.der_base.specs.declared.header.Class.TheVariants.{ContextSpecific, Un
 use Rattle.der_base.specs.declared.rules.Rules.TheVariants.{Der}
 use Rattle.der_base.specs.Numbers.{unsigned}
 use Rattle.der_base.specs.Refusal.{wrong_value}
-use Rattle.der_cursor.specs.declared.refusal.Refusal.{Refusal}
+use Rattle.der_cursor.specs.declared.error.ReadError.{ReadError}
 use Rattle.der_cursor.specs.Elements.{Element}
 use Rattle.der_values.specs.Kinds.{bit_strings, borrowed_octets, identifiers, numbers}
 use Rattle.x509_keys.specs.declared.request.attribute.Attribute.{Attribute as AttributeStruct}
-use Rattle.x509_keys.specs.declared.request.refusal.Field.{Field}
-use Rattle.x509_keys.specs.declared.request.refusal.Field.TheVariants as field
-use Rattle.x509_keys.specs.declared.request.refusal.RequestRefusal.{RequestRefusal}
+use Rattle.x509_keys.specs.declared.request.error.Field.{Field}
+use Rattle.x509_keys.specs.declared.request.error.Field.TheVariants as field
+use Rattle.x509_keys.specs.declared.request.error.CertificationRequestError.{CertificationRequestError}
 use Rattle.x509_keys.specs.declared.request.CertificationRequest.{CertificationRequest}
 use Rattle.x509_keys.specs.declared.request.CertificationRequestInfo.{CertificationRequestInfo}
 use Rattle.x509.specs.Certificates.{Algorithm, KeyInfo, algorithm_identifier, algorithm_of, bits_of, extensions}
@@ -154,8 +154,8 @@ request_of r = record {
 }
 
 -- a refusal of a field, and what it says
-abbrev pub request_refusal : Field → Refusal BerError → RequestRefusal
+abbrev pub request_refusal : Field → ReadError BerError → CertificationRequestError
 request_refusal n e = record { field = n; refusal = e }
 
-abbrev pub field_fault : RequestRefusal → FieldFault
+abbrev pub field_fault : CertificationRequestError → FieldFault
 field_fault e = (e.field, fault_of e.refusal)

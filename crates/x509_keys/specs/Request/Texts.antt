@@ -1,11 +1,11 @@
 -- The texts of errors.
 use Rattle.std.specs.Prelude.{ℕ, Option, List, ◌++◌, codes}
 use Rattle.std.specs.Option.{option_map}
-use Rattle.x509_keys.specs.declared.request.refusal.Field.{Field}
-use Rattle.x509_keys.specs.declared.request.refusal.Field.TheVariants.{Attributes, CertificationRequest, Signature}
-use Rattle.x509_keys.specs.declared.request.refusal.Field.TheVariants.{SignatureAlgorithm, Subject, Version}
-use Rattle.x509_keys.specs.declared.request.refusal.Field.TheVariants.{CertificationRequestInfo}
-use Rattle.x509_keys.specs.declared.request.refusal.Field.TheVariants.{SubjectPublicKeyInfo}
+use Rattle.x509_keys.specs.declared.request.error.Field.{Field}
+use Rattle.x509_keys.specs.declared.request.error.Field.TheVariants.{Attributes, CertificationRequest, Signature}
+use Rattle.x509_keys.specs.declared.request.error.Field.TheVariants.{SignatureAlgorithm, Subject, Version}
+use Rattle.x509_keys.specs.declared.request.error.Field.TheVariants.{CertificationRequestInfo}
+use Rattle.x509_keys.specs.declared.request.error.Field.TheVariants.{SubjectPublicKeyInfo}
 
 -- a field after those that it is in, as the ASN.1 of RFC 2986 names them (4)
 abbrev pub field_text : Field → List ℕ

@@ -8,7 +8,7 @@ ghost use Rattle.x509.specs.Readers.{IsShorter, ReadsBy, ReadsToEnd, fault_of};
 use der_base::any::Any;
 use der_base::error::BerError;
 use der_base::header::{Class, Tag};
-use der_cursor::{Cursor, Refusal};
+use der_cursor::{Cursor, ReadError};
 use der_values::ObjectIdentifier;
 
 /// The attributes of a CSR, as their checked octets.
@@ -36,7 +36,7 @@ pub struct Values<'a> {
 /// Reads the attributes of a CSR.
 pub(crate) fn read_attributes<'a>(
     fields: &mut Cursor<'a>,
-) -> Result<Attributes<'a>, Refusal<BerError>>
+) -> Result<Attributes<'a>, ReadError<BerError>>
     ensures { ReadsBy fault_of (λ a. a.octets.now) attributes fields.old result fields.new }
 {
     let list = fields.open(Class::ContextSpecific, true, Tag(0))?;
@@ -47,7 +47,7 @@ pub(crate) fn read_attributes<'a>(
 }
 
 /// Reads attributes to the end of a set.
-fn check_attributes(mut list: Cursor<'_>) -> Result<(), Refusal<BerError>>
+fn check_attributes(mut list: Cursor<'_>) -> Result<(), ReadError<BerError>>
     ensures { ReadsToEnd fault_of (λ u. u) (list_of attribute) list.entry result }
 {
     while !list.is_empty() {
@@ -57,7 +57,9 @@ fn check_attributes(mut list: Cursor<'_>) -> Result<(), Refusal<BerError>>
 }
 
 /// Reads an Attribute.
-pub(crate) fn read_attribute<'a>(list: &mut Cursor<'a>) -> Result<Attribute<'a>, Refusal<BerError>>
+pub(crate) fn read_attribute<'a>(
+    list: &mut Cursor<'a>,
+) -> Result<Attribute<'a>, ReadError<BerError>>
     ensures reads { ReadsBy fault_of attribute_of attribute list.old result list.new }
     ensures shorter { OnOk result (IsShorter list.old list.new) }
 {
@@ -69,7 +71,7 @@ pub(crate) fn read_attribute<'a>(list: &mut Cursor<'a>) -> Result<Attribute<'a>,
 }
 
 /// Reads the values of an attribute.
-fn read_values<'a>(parts: &mut Cursor<'a>) -> Result<Values<'a>, Refusal<BerError>>
+fn read_values<'a>(parts: &mut Cursor<'a>) -> Result<Values<'a>, ReadError<BerError>>
     ensures { ReadsBy fault_of (λ v. v.octets.now) values parts.old result parts.new }
 {
     let list = parts.open_set()?;
@@ -80,7 +82,7 @@ fn read_values<'a>(parts: &mut Cursor<'a>) -> Result<Values<'a>, Refusal<BerErro
 }
 
 /// Reads values to the end of a set, at least one.
-fn check_values(mut list: Cursor<'_>) -> Result<(), Refusal<BerError>>
+fn check_values(mut list: Cursor<'_>) -> Result<(), ReadError<BerError>>
     ensures { ReadsToEnd fault_of (λ u. u) values_to_end list.entry result }
 {
     if list.is_empty() {
@@ -93,7 +95,7 @@ fn check_values(mut list: Cursor<'_>) -> Result<(), Refusal<BerError>>
 }
 
 /// Reads a value: an element of any type. Its content isn't checked.
-pub(crate) fn read_value<'a>(list: &mut Cursor<'a>) -> Result<Any<'a>, Refusal<BerError>>
+pub(crate) fn read_value<'a>(list: &mut Cursor<'a>) -> Result<Any<'a>, ReadError<BerError>>
     ensures reads { ReadsBy fault_of element_of any list.old result list.new }
     ensures shorter { OnOk result (IsShorter list.old list.new) }
 {

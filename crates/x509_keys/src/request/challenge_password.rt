@@ -10,7 +10,7 @@ use crate::request::attribute::Values;
 use der_base::any::Any;
 use der_base::error::BerError;
 use der_base::header::{Class, Tag};
-use der_cursor::{Cursor, Refusal};
+use der_cursor::{Cursor, ReadError};
 
 /// Reads the value of a `CHALLENGE_PASSWORD` attribute: one DirectoryString. Trailing data is an error. The characters
 /// and the size, 1 to 255, aren't checked. Offsets of errors count from the start of the values.
@@ -23,7 +23,7 @@ use der_cursor::{Cursor, Refusal};
 ///     }
 /// }
 /// ```
-pub fn read_challenge_password(values: Values<'_>) -> Result<Any<'_>, Refusal<BerError>>
+pub fn read_challenge_password(values: Values<'_>) -> Result<Any<'_>, ReadError<BerError>>
     ensures { ReadsExactly fault_of element_of challenge_password values.entry.octets.now result }
 {
     let mut input = Cursor::new(values.octets);
@@ -33,7 +33,7 @@ pub fn read_challenge_password(values: Values<'_>) -> Result<Any<'_>, Refusal<Be
 }
 
 /// Reads a DirectoryString.
-fn read_directory_string<'a>(input: &mut Cursor<'a>) -> Result<Any<'a>, Refusal<BerError>>
+fn read_directory_string<'a>(input: &mut Cursor<'a>) -> Result<Any<'a>, ReadError<BerError>>
     ensures { ReadsBy fault_of element_of directory_string input.old result input.new }
 {
     let before = *input;

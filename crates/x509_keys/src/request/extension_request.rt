@@ -4,7 +4,7 @@ ghost use Rattle.x509.specs.Readers.{ReadsExactly, fault_of};
 
 use crate::request::attribute::Values;
 use der_base::error::BerError;
-use der_cursor::{Cursor, Refusal};
+use der_cursor::{Cursor, ReadError};
 use x509::Extensions;
 use x509::parts::read_extension_list;
 
@@ -20,7 +20,7 @@ use x509::parts::read_extension_list;
 ///     }
 /// }
 /// ```
-pub fn read_extension_request(values: Values<'_>) -> Result<Extensions<'_>, Refusal<BerError>>
+pub fn read_extension_request(values: Values<'_>) -> Result<Extensions<'_>, ReadError<BerError>>
     ensures { ReadsExactly fault_of (λ e. e.octets.now) extension_request values.entry.octets.now result }
 {
     let mut input = Cursor::new(values.octets);

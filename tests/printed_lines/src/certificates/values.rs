@@ -3,7 +3,7 @@ use der_extensions::{
     BasicConstraints, GeneralNames, KnownExtension, known_extension, read_basic_constraints,
     read_general_names,
 };
-use der_parser::cursor::{Cursor, FieldRefusal, Named, Refusal};
+use der_parser::cursor::{Cursor, FieldError, Named, ReadError};
 use der_parser::error::BerError;
 use der_parser::values::BitString;
 use x509::{Extension, Extensions};
@@ -23,7 +23,7 @@ pub enum Value<'a> {
 }
 
 /// Reads the value of an extension. The offset of an error is that in the value.
-pub fn read_value<'a>(extension: &Extension<'a>) -> Result<Value<'a>, FieldRefusal> {
+pub fn read_value<'a>(extension: &Extension<'a>) -> Result<Value<'a>, FieldError> {
     let octets = extension.value;
     match known_extension(extension.identifier.as_bytes()) {
         Some(KnownExtension::KeyUsage) => read_key_usage(octets).named("keyUsage"),
@@ -49,7 +49,7 @@ pub fn read_values<'a>(
 }
 
 /// Reads a KeyUsage. One that ends in a bit 0 is read too, since real roots have it.
-fn read_key_usage(octets: &[u8]) -> Result<Value<'_>, Refusal<BerError>> {
+fn read_key_usage(octets: &[u8]) -> Result<Value<'_>, ReadError<BerError>> {
     let mut value = Cursor::new(octets);
     let bits = value.bits()?;
     value.end()?;
@@ -57,7 +57,7 @@ fn read_key_usage(octets: &[u8]) -> Result<Value<'_>, Refusal<BerError>> {
 }
 
 /// Reads a SubjectAltName.
-fn read_names(octets: &[u8]) -> Result<Value<'_>, Refusal<BerError>> {
+fn read_names(octets: &[u8]) -> Result<Value<'_>, ReadError<BerError>> {
     let names = read_general_names(octets)?;
     Ok(Value::SubjectAltName(names))
 }

@@ -1,7 +1,7 @@
 //! Certificates.
 use test_words::{push_number, push_refused_at};
 use x509::{
-    Certificate, Extensions, Name, Rule, StrictRefusal, read_certificate, read_strict_certificate,
+    Certificate, Extensions, Name, Rule, StrictError, read_certificate, read_strict_certificate,
 };
 use std::alloc::{AllocError, Global};
 use test_tables::fault::Fault;
@@ -31,7 +31,7 @@ pub fn reason(alloc: Global, octets: &[u8]) -> Result<String, Fault> {
 /// What `certificate` answers, and the rule of the strict reading that is broken.
 pub fn strict_certificate(alloc: Global, octets: &[u8]) -> Result<String, Fault> {
     let mut text = certificate(alloc, octets)?;
-    if let Some(StrictRefusal::Broken(rule)) = read_strict_certificate(octets).err() {
+    if let Some(StrictError::Broken(rule)) = read_strict_certificate(octets).err() {
         push_word(&mut text, "breaks")?;
         push_word(&mut text, name_of(rule))?;
     }

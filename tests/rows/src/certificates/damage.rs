@@ -1,7 +1,7 @@
 //! Messages with each of their elements damaged.
 use x509::crl::{CertificateList, read_certificate_list};
 use der_base::error::BerError;
-use der_cursor::Refusal;
+use der_cursor::ReadError;
 use der_extensions::{read_basic_constraints, read_general_names, read_key_usage};
 use x509_keys::request::{
     Attribute, CertificationRequest, attribute_identifiers, read_extension_request, read_request,
@@ -69,7 +69,7 @@ impl Reader for Kind {
 }
 
 /// What it means that a reader refuses octets so.
-fn outcome_of(refused: Option<Refusal<BerError>>) -> Outcome {
+fn outcome_of(refused: Option<ReadError<BerError>>) -> Outcome {
     match refused {
         None => Outcome::Read,
         Some(refused) => Outcome::RefusedAt(refused.offset),

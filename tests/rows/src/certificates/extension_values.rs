@@ -1,7 +1,7 @@
 //! Values of extensions that are no lists. Each reader's refusal is answered as it is printed.
 use crate::certificates::further_values::further_value;
 use der_base::error::BerError;
-use der_cursor::Refusal;
+use der_cursor::ReadError;
 use der_extensions::{
     AuthorityKeyIdentifier, BasicConstraints, KeyUsage, NameConstraints, SequenceOf,
     read_authority_key_identifier, read_basic_constraints, read_key_usage, read_name_constraints,
@@ -30,7 +30,7 @@ pub fn extension_value(alloc: Global, call: &str, octets: &[u8]) -> Result<Strin
 
 fn basic_constraints(
     alloc: Global,
-    read: Result<BasicConstraints, Refusal<BerError>>,
+    read: Result<BasicConstraints, ReadError<BerError>>,
 ) -> Result<String, AllocError> {
     match read {
         Ok(value) => match value.path_length {
@@ -44,7 +44,7 @@ fn basic_constraints(
 /// The usages, by their names.
 fn key_usage(
     alloc: Global,
-    read: Result<KeyUsage<'_>, Refusal<BerError>>,
+    read: Result<KeyUsage<'_>, ReadError<BerError>>,
 ) -> Result<String, AllocError> {
     match read {
         Ok(usage) => usages(alloc, &usage),
@@ -75,7 +75,7 @@ fn usages(alloc: Global, usage: &KeyUsage<'_>) -> Result<String, AllocError> {
 
 fn subject_key_identifier(
     alloc: Global,
-    read: Result<&[u8], Refusal<BerError>>,
+    read: Result<&[u8], ReadError<BerError>>,
 ) -> Result<String, AllocError> {
     match read {
         Ok(octets) => {
@@ -89,7 +89,7 @@ fn subject_key_identifier(
 
 fn authority_key_identifier(
     alloc: Global,
-    read: Result<AuthorityKeyIdentifier<'_>, Refusal<BerError>>,
+    read: Result<AuthorityKeyIdentifier<'_>, ReadError<BerError>>,
 ) -> Result<String, AllocError> {
     match read {
         Ok(value) => key_identifier(alloc, value),
@@ -107,7 +107,7 @@ fn key_identifier(alloc: Global, value: AuthorityKeyIdentifier<'_>) -> Result<St
 
 fn name_constraints(
     alloc: Global,
-    read: Result<NameConstraints<'_>, Refusal<BerError>>,
+    read: Result<NameConstraints<'_>, ReadError<BerError>>,
 ) -> Result<String, AllocError> {
     match read {
         Ok(value) => subtrees(alloc, value),

@@ -4,7 +4,7 @@ use crate::certificates::lists_of_extensions::list;
 use crate::certificates::revocation_values::revocation_value;
 use crate::certificates::web_values::web_value;
 use der_base::error::BerError;
-use der_cursor::Refusal;
+use der_cursor::ReadError;
 use der_extensions::{
     PolicyConstraints, PolicyMappings, SubjectDirectoryAttributes, read_inhibit_any_policy,
     read_policy_constraints, read_policy_mappings, read_subject_directory_attributes,
@@ -35,7 +35,7 @@ pub fn further_value(alloc: Global, call: &str, octets: &[u8]) -> Result<String,
 
 fn policy_mappings(
     alloc: Global,
-    read: Result<PolicyMappings<'_>, Refusal<BerError>>,
+    read: Result<PolicyMappings<'_>, ReadError<BerError>>,
 ) -> Result<String, AllocError> {
     match read {
         Ok(mappings) => mappings_text(alloc, &mappings),
@@ -56,7 +56,7 @@ fn mappings_text(alloc: Global, mappings: &PolicyMappings<'_>) -> Result<String,
 
 fn policy_constraints(
     alloc: Global,
-    read: Result<PolicyConstraints, Refusal<BerError>>,
+    read: Result<PolicyConstraints, ReadError<BerError>>,
 ) -> Result<String, AllocError> {
     match read {
         Ok(value) => constraints_text(alloc, &value),
@@ -77,7 +77,7 @@ fn constraints_text(alloc: Global, value: &PolicyConstraints) -> Result<String, 
 
 fn inhibit_any_policy(
     alloc: Global,
-    read: Result<u32, Refusal<BerError>>,
+    read: Result<u32, ReadError<BerError>>,
 ) -> Result<String, AllocError> {
     match read {
         Ok(number) => format!(in alloc; "{number}"),
@@ -87,7 +87,7 @@ fn inhibit_any_policy(
 
 fn directory_attributes(
     alloc: Global,
-    read: Result<SubjectDirectoryAttributes<'_>, Refusal<BerError>>,
+    read: Result<SubjectDirectoryAttributes<'_>, ReadError<BerError>>,
 ) -> Result<String, AllocError> {
     match read {
         Ok(attributes) => attributes_text(alloc, &attributes),

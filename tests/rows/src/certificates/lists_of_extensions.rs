@@ -1,6 +1,6 @@
 //! Values of extensions that are lists.
 use der_base::error::BerError;
-use der_cursor::Refusal;
+use der_cursor::ReadError;
 use der_extensions::{
     CertificatePolicies, CrlDistributionPoints, DistributionPoint, ExtendedKeyUsage, GeneralName,
     GeneralNames, InformationAccess, read_certificate_policies, read_crl_distribution_points,
@@ -32,7 +32,7 @@ pub fn list(alloc: Global, call: &str, octets: &[u8]) -> Result<String, Fault> {
 /// The number of the purposes.
 fn purposes(
     alloc: Global,
-    read: Result<ExtendedKeyUsage<'_>, Refusal<BerError>>,
+    read: Result<ExtendedKeyUsage<'_>, ReadError<BerError>>,
 ) -> Result<String, AllocError> {
     match read {
         Ok(list) => format!(in alloc; "{} values", list.iter().count()),
@@ -43,7 +43,7 @@ fn purposes(
 /// The number of the descriptions.
 fn descriptions(
     alloc: Global,
-    read: Result<InformationAccess<'_>, Refusal<BerError>>,
+    read: Result<InformationAccess<'_>, ReadError<BerError>>,
 ) -> Result<String, AllocError> {
     match read {
         Ok(list) => format!(in alloc; "{} values", list.iter().count()),
@@ -54,7 +54,7 @@ fn descriptions(
 /// The number of the policies.
 fn policies(
     alloc: Global,
-    read: Result<CertificatePolicies<'_>, Refusal<BerError>>,
+    read: Result<CertificatePolicies<'_>, ReadError<BerError>>,
 ) -> Result<String, AllocError> {
     match read {
         Ok(list) => format!(in alloc; "{} values", list.iter().count()),
@@ -64,7 +64,7 @@ fn policies(
 
 fn general_names(
     alloc: Global,
-    read: Result<GeneralNames<'_>, Refusal<BerError>>,
+    read: Result<GeneralNames<'_>, ReadError<BerError>>,
 ) -> Result<String, AllocError> {
     match read {
         Ok(names) => names_text(alloc, &names),
@@ -103,7 +103,7 @@ fn parts_of<'r>(name: &'r GeneralName<'_>) -> (&'static str, &'r [u8]) {
 
 fn distribution_points(
     alloc: Global,
-    read: Result<CrlDistributionPoints<'_>, Refusal<BerError>>,
+    read: Result<CrlDistributionPoints<'_>, ReadError<BerError>>,
 ) -> Result<String, AllocError> {
     match read {
         Ok(points) => points_text(alloc, &points),

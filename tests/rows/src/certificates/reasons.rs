@@ -1,7 +1,7 @@
 //! Reasons of revocations.
 use x509::crl::{Reason, read_certificate_list, read_reason};
 use der_base::error::BerError;
-use der_cursor::Refusal;
+use der_cursor::ReadError;
 use test_words::push_number;
 use std::alloc::{AllocError, Global};
 use test_tables::fault::Fault;
@@ -34,7 +34,7 @@ pub fn reasons(alloc: Global, octets: &[u8]) -> Result<String, Fault> {
 
 fn push_reason(
     text: &mut String,
-    found: Result<Option<Reason>, Refusal<BerError>>,
+    found: Result<Option<Reason>, ReadError<BerError>>,
 ) -> Result<(), AllocError> {
     match found {
         Ok(Some(reason)) => {

@@ -2,7 +2,7 @@
 //! as it is printed.
 use der_base::error::BerError;
 use der_base::time::ASN1DateTime;
-use der_cursor::Refusal;
+use der_cursor::ReadError;
 use der_extensions::{
     DistributionPointName, IssuingDistributionPoint, read_crl_number, read_invalidity_date,
     read_issuing_distribution_point,
@@ -35,7 +35,7 @@ pub fn revocation_value(
 
 fn crl_number(
     alloc: Global,
-    read: Result<&[u8], Refusal<BerError>>,
+    read: Result<&[u8], ReadError<BerError>>,
 ) -> Result<String, AllocError> {
     match read {
         Ok(octets) => {
@@ -49,7 +49,7 @@ fn crl_number(
 
 fn invalidity_date(
     alloc: Global,
-    read: Result<ASN1DateTime, Refusal<BerError>>,
+    read: Result<ASN1DateTime, ReadError<BerError>>,
 ) -> Result<String, AllocError> {
     match read {
         Ok(date) => format!(in alloc; "{date}"),
@@ -59,7 +59,7 @@ fn invalidity_date(
 
 fn issuing_distribution_point(
     alloc: Global,
-    read: Result<IssuingDistributionPoint<'_>, Refusal<BerError>>,
+    read: Result<IssuingDistributionPoint<'_>, ReadError<BerError>>,
 ) -> Result<String, AllocError> {
     match read {
         Ok(point) => point_text(alloc, &point),

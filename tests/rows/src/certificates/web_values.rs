@@ -1,6 +1,6 @@
 //! Values of the extensions of the web. Each reader's refusal is answered as it is printed.
 use der_base::error::BerError;
-use der_cursor::Refusal;
+use der_cursor::ReadError;
 use der_extensions::{
     OrganizationIdentifier, QcStatements, SignedCertificateTimestamps, TlsFeatures,
     read_null, read_organization_identifier,
@@ -29,7 +29,7 @@ pub fn web_value(alloc: Global, call: &str, octets: &[u8]) -> Result<Option<Stri
     Ok(Some(text?))
 }
 
-fn null(alloc: Global, read: Result<(), Refusal<BerError>>) -> Result<String, AllocError> {
+fn null(alloc: Global, read: Result<(), ReadError<BerError>>) -> Result<String, AllocError> {
     match read {
         Ok(()) => format!(in alloc; "null"),
         Err(e) => format!(in alloc; "{e}"),
@@ -38,7 +38,7 @@ fn null(alloc: Global, read: Result<(), Refusal<BerError>>) -> Result<String, Al
 
 fn tls_features(
     alloc: Global,
-    read: Result<TlsFeatures<'_>, Refusal<BerError>>,
+    read: Result<TlsFeatures<'_>, ReadError<BerError>>,
 ) -> Result<String, AllocError> {
     match read {
         Ok(features) => features_text(alloc, &features),
@@ -57,7 +57,7 @@ fn features_text(alloc: Global, features: &TlsFeatures<'_>) -> Result<String, Al
 
 fn timestamps(
     alloc: Global,
-    read: Result<SignedCertificateTimestamps<'_>, Refusal<BerError>>,
+    read: Result<SignedCertificateTimestamps<'_>, ReadError<BerError>>,
 ) -> Result<String, AllocError> {
     match read {
         Ok(list) => timestamps_text(alloc, &list),
@@ -80,7 +80,7 @@ fn timestamps_text(
 
 fn qc_statements(
     alloc: Global,
-    read: Result<QcStatements<'_>, Refusal<BerError>>,
+    read: Result<QcStatements<'_>, ReadError<BerError>>,
 ) -> Result<String, AllocError> {
     match read {
         Ok(statements) => statements_text(alloc, &statements),
@@ -103,7 +103,7 @@ fn statements_text(alloc: Global, statements: &QcStatements<'_>) -> Result<Strin
 
 fn organization_identifier(
     alloc: Global,
-    read: Result<OrganizationIdentifier<'_>, Refusal<BerError>>,
+    read: Result<OrganizationIdentifier<'_>, ReadError<BerError>>,
 ) -> Result<String, AllocError> {
     match read {
         Ok(value) => organization_text(alloc, &value),

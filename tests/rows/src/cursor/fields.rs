@@ -3,7 +3,7 @@ use crate::cursor::optional::optional_field;
 use crate::cursor::shown::{numbered, shown, shown_octets};
 use der_base::any::Any;
 use der_base::error::BerError;
-use der_cursor::{Cursor, Refusal};
+use der_cursor::{Cursor, ReadError};
 use der_values::BitString;
 use std::alloc::{AllocError, Global};
 use test_tables::fault::Fault;
@@ -46,7 +46,7 @@ fn text_field(alloc: Global, cursor: &mut Cursor<'_>, call: &str) -> Result<Stri
 /// The number of unused bits, and the octets.
 fn shown_bits(
     alloc: Global,
-    read: Result<BitString<'_>, Refusal<BerError>>,
+    read: Result<BitString<'_>, ReadError<BerError>>,
 ) -> Result<String, AllocError> {
     match read {
         Ok(bits) => numbered(alloc, u32::from(bits.unused), bits.octets),
@@ -54,7 +54,7 @@ fn shown_bits(
     }
 }
 
-fn shown_null(alloc: Global, read: Result<(), Refusal<BerError>>) -> Result<String, AllocError> {
+fn shown_null(alloc: Global, read: Result<(), ReadError<BerError>>) -> Result<String, AllocError> {
     match read {
         Ok(()) => format!(in alloc; "NULL"),
         Err(e) => format!(in alloc; "{e}"),
@@ -64,7 +64,7 @@ fn shown_null(alloc: Global, read: Result<(), Refusal<BerError>>) -> Result<Stri
 /// The tag number, and the content octets.
 fn shown_any(
     alloc: Global,
-    read: Result<Any<'_>, Refusal<BerError>>,
+    read: Result<Any<'_>, ReadError<BerError>>,
 ) -> Result<String, AllocError> {
     match read {
         Ok(any) => numbered(alloc, any.tag().0, any.bytes),

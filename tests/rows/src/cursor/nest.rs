@@ -4,7 +4,7 @@ use crate::cursor::shown::octets_text;
 use der_base::error::BerError;
 use der_base::header::{Class, Tag};
 use der_base::rules::Rules;
-use der_cursor::{Cursor, FieldRefusal, Named, Refusal};
+use der_cursor::{Cursor, FieldError, Named, ReadError};
 use std::alloc::{AllocError, Global};
 use test_tables::fault::Fault;
 use test_tables::octets::{push_octets, push_word};
@@ -112,7 +112,7 @@ fn answer(alloc: Global, cursor: &mut Cursor<'_>, step: &str) -> Result<String, 
     Ok(text?)
 }
 
-fn shown_end(alloc: Global, ended: Result<(), Refusal<BerError>>) -> Result<String, AllocError> {
+fn shown_end(alloc: Global, ended: Result<(), ReadError<BerError>>) -> Result<String, AllocError> {
     match ended {
         Ok(()) => format!(in alloc; "end"),
         Err(e) => format!(in alloc; "{e}"),
@@ -120,7 +120,7 @@ fn shown_end(alloc: Global, ended: Result<(), Refusal<BerError>>) -> Result<Stri
 }
 
 /// The serial number of a certificate, with the names of fields.
-fn serial_number<'a>(input: &mut Cursor<'a>) -> Result<&'a [u8], FieldRefusal> {
+fn serial_number<'a>(input: &mut Cursor<'a>) -> Result<&'a [u8], FieldError> {
     let mut parts = input.open_sequence().named("Certificate")?;
     let mut fields = parts.open_sequence().named("tbsCertificate")?;
     fields
@@ -135,7 +135,7 @@ fn serial_number<'a>(input: &mut Cursor<'a>) -> Result<&'a [u8], FieldRefusal> {
 
 fn shown_serial_number(
     alloc: Global,
-    read: Result<&[u8], FieldRefusal>,
+    read: Result<&[u8], FieldError>,
 ) -> Result<String, AllocError> {
     match read {
         Ok(number) => octets_text(alloc, number),
@@ -144,7 +144,7 @@ fn shown_serial_number(
 }
 
 /// The names of the fields that the error of a serial number has.
-fn shown_names(alloc: Global, read: Result<&[u8], FieldRefusal>) -> Result<String, AllocError> {
+fn shown_names(alloc: Global, read: Result<&[u8], FieldError>) -> Result<String, AllocError> {
     let mut text = String::new(alloc);
     if let Err(refused) = read {
         for name in refused.names() {

@@ -1,7 +1,7 @@
 //! The calls that read a value that may be absent.
 use crate::cursor::shown::{numbered, octets_text, shown, shown_optional};
 use der_base::error::BerError;
-use der_cursor::{Cursor, Refusal};
+use der_cursor::{Cursor, ReadError};
 use der_values::BitString;
 use std::alloc::{AllocError, Global};
 use test_tables::fault::Fault;
@@ -29,7 +29,7 @@ pub fn optional_field(alloc: Global, cursor: &mut Cursor<'_>, call: &str) -> Res
 /// The octets in hexadecimal digits.
 fn shown_optional_octets(
     alloc: Global,
-    read: Result<Option<&[u8]>, Refusal<BerError>>,
+    read: Result<Option<&[u8]>, ReadError<BerError>>,
 ) -> Result<String, AllocError> {
     match read {
         Ok(Some(octets)) => octets_text(alloc, octets),
@@ -41,7 +41,7 @@ fn shown_optional_octets(
 /// The number of unused bits, and the octets.
 fn shown_optional_bits(
     alloc: Global,
-    read: Result<Option<BitString<'_>>, Refusal<BerError>>,
+    read: Result<Option<BitString<'_>>, ReadError<BerError>>,
 ) -> Result<String, AllocError> {
     match read {
         Ok(Some(bits)) => numbered(alloc, u32::from(bits.unused), bits.octets),

@@ -1,6 +1,6 @@
 //! What a call returns, as a text.
 use der_base::error::BerError;
-use der_cursor::Refusal;
+use der_cursor::ReadError;
 use std::alloc::{AllocError, Global};
 use std::fmt::Display;
 use test_tables::octets::push_octets;
@@ -8,7 +8,7 @@ use test_tables::octets::push_octets;
 /// The value, or the refusal.
 pub fn shown<T: Display + Drop>(
     alloc: Global,
-    read: Result<T, Refusal<BerError>>,
+    read: Result<T, ReadError<BerError>>,
 ) -> Result<String, AllocError> {
     match read {
         Ok(value) => format!(in alloc; "{value}"),
@@ -19,7 +19,7 @@ pub fn shown<T: Display + Drop>(
 /// The value, `absent` where there is none, or the refusal.
 pub fn shown_optional<T: Display + Drop>(
     alloc: Global,
-    read: Result<Option<T>, Refusal<BerError>>,
+    read: Result<Option<T>, ReadError<BerError>>,
 ) -> Result<String, AllocError> {
     match read {
         Ok(Some(value)) => format!(in alloc; "{value}"),
@@ -31,7 +31,7 @@ pub fn shown_optional<T: Display + Drop>(
 /// The octets in hexadecimal digits, or the refusal.
 pub fn shown_octets(
     alloc: Global,
-    read: Result<&[u8], Refusal<BerError>>,
+    read: Result<&[u8], ReadError<BerError>>,
 ) -> Result<String, AllocError> {
     match read {
         Ok(octets) => octets_text(alloc, octets),

@@ -1,7 +1,7 @@
 //! Walks over elements.
 use der_contents::ContentError;
 use test_words::{push_number, push_refusal};
-use der_elements::{Cause, Element, Path, Refusal, Rules, Walk, fault_inside, first_fault};
+use der_elements::{Cause, Element, Path, ElementError, Rules, Walk, fault_inside, first_fault};
 use std::alloc::{AllocError, Global};
 use test_tables::fault::Fault;
 use test_tables::octets::push_word;
@@ -68,7 +68,7 @@ pub fn push_path(text: &mut String, path: &Path) -> Result<(), AllocError> {
 /// Adds what was visited, and whether the walk goes on.
 fn push_visited(
     text: &mut String,
-    visited: Result<Option<Element<'_>>, Refusal>,
+    visited: Result<Option<Element<'_>>, ElementError>,
 ) -> Result<bool, AllocError> {
     match visited {
         Ok(Some(element)) => push_element(text, &element)?,

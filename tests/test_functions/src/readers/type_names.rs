@@ -1,7 +1,7 @@
 //! Types by name: each public type of `der_parser` that a constructor or a call returns is named here
 //! by its path. Under another type's name a function doesn't compile.
 use der_parser::ber::{self, BerObject, BerObjectContent, BerObjectRefIterator, Header, Tag};
-use der_parser::cursor::{Cursor, Refusal};
+use der_parser::cursor::{Cursor, ReadError};
 use der_parser::error::{BerError, BerResult};
 use der_parser::nodes::{Element, Node, Nodes, Preorder, Trees, Value};
 use der_parser::{IResult, der};

@@ -1,6 +1,6 @@
 use Rattle.std.proofs.Common.{refl}
 use Rattle.std.proofs.lemmas.Result.{err_from_is_err_and}
-use Rattle.x509.specs.declared.refusal.Field.TheVariants as field
+use Rattle.x509.specs.declared.error.Field.TheVariants as field
 use Rattle.x509.proofs.CertificateLaws.{read_from_start}
 use Rattle.x509.proofs.ReaderLaws.{end_read, finished, named_read, step, stop, whole}
 use Rattle.x509.proofs.certificate.read_certificate.Goals as goal

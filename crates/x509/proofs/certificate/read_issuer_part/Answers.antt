@@ -1,7 +1,7 @@
 use Rattle.std.proofs.Common.{refl}
 use Rattle.std.proofs.lemmas.Result.{err_from_is_err_and}
 use Rattle.der_values.specs.Kinds.{integers}
-use Rattle.x509.specs.declared.refusal.Field.TheVariants as field
+use Rattle.x509.specs.declared.error.Field.TheVariants as field
 use Rattle.x509.proofs.ReaderLaws.{finished, named_read, step, stop, value_read}
 use Rattle.x509.proofs.certificate.read_issuer_part.Goals as goal
 

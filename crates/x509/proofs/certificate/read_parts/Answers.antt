@@ -1,7 +1,7 @@
 use Rattle.std.proofs.Common.{true}
 use Rattle.std.proofs.lemmas.Result.{err_from_is_err_and}
 use Rattle.der_values.specs.Kinds.{bit_strings}
-use Rattle.x509.specs.declared.refusal.Field.TheVariants as field
+use Rattle.x509.specs.declared.error.Field.TheVariants as field
 use Rattle.std.proofs.Common.{◌-◌, length, take}
 use Rattle.der_cursor.specs.Cursors.{octets_left}
 use Rattle.x509.proofs.CertificateLaws.{tbs_same, tbs_taken}

@@ -1,6 +1,6 @@
 use Rattle.std.proofs.Common.{true, refl}
 use Rattle.std.proofs.lemmas.Result.{err_from_is_err_and}
-use Rattle.x509.specs.declared.refusal.Field.TheVariants as field
+use Rattle.x509.specs.declared.error.Field.TheVariants as field
 use Rattle.x509.specs.Certificates.{issuer_part, issuer_part_of, subject_part, tbs_end}
 use Rattle.x509.specs.Formats.{done}
 use Rattle.x509.proofs.ReaderLaws.{end_read, finished, joined, named_read, opened_field, shorter_field, step, stop, type_read, within}

@@ -1,5 +1,5 @@
 use Rattle.std.proofs.Common.{Ok, Err}
-use Rattle.x509.specs.declared.rules.StrictRefusal.TheVariants.{NotRead, Broken}
+use Rattle.x509.specs.declared.rules.StrictError.TheVariants.{NotRead, Broken}
 use Rattle.x509.specs.Certificates.{certificate_of}
 use Rattle.x509.proofs.RuleLaws.{reads_strictly}
 use Rattle.x509.proofs.rules.read_strict_certificate.Goals as goal

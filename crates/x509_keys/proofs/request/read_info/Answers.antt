@@ -1,6 +1,6 @@
 use Rattle.std.proofs.Common.{true, refl}
 use Rattle.std.proofs.lemmas.Result.{err_from_is_err_and}
-use Rattle.x509_keys.specs.declared.request.refusal.Field.TheVariants as field
+use Rattle.x509_keys.specs.declared.request.error.Field.TheVariants as field
 use Rattle.x509_keys.proofs.RequestLaws.RequestLaws.{named_read, opened_field, shorter_field}
 use Rattle.x509.proofs.ReaderLaws.{end_read, finished, step, stop, type_read, within}
 use Rattle.x509_keys.proofs.request.read_info.Goals as goal

@@ -2,7 +2,7 @@ use Rattle.std.proofs.Common.{◌-◌, length, take, true}
 use Rattle.std.proofs.lemmas.Result.{err_from_is_err_and}
 use Rattle.der_cursor.specs.Cursors.{octets_left}
 use Rattle.der_values.specs.Kinds.{bit_strings}
-use Rattle.x509_keys.specs.declared.request.refusal.Field.TheVariants as field
+use Rattle.x509_keys.specs.declared.request.error.Field.TheVariants as field
 use Rattle.x509_keys.proofs.RequestLaws.RequestLaws.{info_same, info_taken, named_read, opened_field}
 use Rattle.x509.proofs.ReaderLaws.{end_read, finished, octets_read, octets_refused, step, stop, type_read, value_read, within}
 use Rattle.x509_keys.proofs.request.read_parts.Goals as goal

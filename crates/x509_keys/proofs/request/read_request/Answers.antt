@@ -1,6 +1,6 @@
 use Rattle.std.proofs.Common.{refl}
 use Rattle.std.proofs.lemmas.Result.{err_from_is_err_and}
-use Rattle.x509_keys.specs.declared.request.refusal.Field.TheVariants as field
+use Rattle.x509_keys.specs.declared.request.error.Field.TheVariants as field
 use Rattle.x509_keys.proofs.RequestLaws.RequestLaws.{named_read, read_from_start}
 use Rattle.x509.proofs.ReaderLaws.{end_read, finished, step, stop, whole}
 use Rattle.x509_keys.proofs.request.read_request.Goals as goal

@@ -10,7 +10,7 @@ pub returns-in-NotCritical : goal.returns-in-NotCritical
 returns-in-NotCritical c = rw c.in-NotCritical.is c.has-in-NotCritical.ensures
 
 pub returns-in-Value : goal.returns-in-Value
-returns-in-Value c = rw c.in-Value.is c.has-in-Value.ensures
+returns-in-Value c = rw c.in-Value.is c.breaks_value.ensures
 
 pub returns-in-Whole : goal.returns-in-Whole
 returns-in-Whole c = rw c.in-Whole.is c.breaks_whole.ensures

@@ -1,6 +1,6 @@
 use Rattle.std.proofs.Common.{◌≡◌, ℕ, ◌+◌, ◌^◌, ◌<◌, length, Option, Result, Ok, List, [], ◌∷◌, ◌++◌, true, false, sym, ap, ◌∙◌, subst, inl, inr, arith, refl, rules}
 use Rattle.der_elements.specs.declared.element.Element.{Element}
-use Rattle.der_elements.specs.declared.refusal.Refusal.{Refusal}
+use Rattle.der_elements.specs.declared.error.ElementError.{ElementError}
 use Rattle.der_elements.specs.Visits.{Extras}
 use Rattle.der_elements.specs.Walked.{VisitsNext, index_in, visited_of}
 use Rattle.der_elements.proofs.Steps.{within}
@@ -18,7 +18,7 @@ elements-init c =
 pub returns-in-Ok-None : goal.returns-in-Ok-None
 returns-in-Ok-None c =
     let so_far = c.elements.invariant in
-    let P : Result (Option Element) Refusal → Type 0 = λ q. VisitsNext all_extras c.args.rules c.args.input.now so_far.0 c.next_element.new.self q in
+    let P : Result (Option Element) ElementError → Type 0 = λ q. VisitsNext all_extras c.args.rules c.args.input.now so_far.0 c.next_element.new.self q in
     let ends = subst P (c.in-Ok-None.is ∙ ap (λ o. Ok o) c.in-Ok-None.field-0-is) (c.next_element.ensures.visits all_extras c.args.rules c.args.input.now so_far.0 so_far.1) in
     let Q : ℕ → Type 0 = λ n. AreRows so_far.0 c.elements.rows n in
     (so_far.0, subst Q (sym c.ended.ensures.rows) so_far.2, inl (c.ended.ensures.refused, ends))
@@ -29,7 +29,7 @@ elements-preserved c =
     let n = c.elements.count in
     let row = c.new-row.result in
     let v = visited_of c.in-Ok-Some.element in
-    let P : Result (Option Element) Refusal → Type 0 = λ q. VisitsNext all_extras c.args.rules c.args.input.now so_far.0 c.next_element.new.self q in
+    let P : Result (Option Element) ElementError → Type 0 = λ q. VisitsNext all_extras c.args.rules c.args.input.now so_far.0 c.next_element.new.self q in
     let next = subst P (c.in-Ok-Some.is ∙ ap (λ o. Ok o) c.in-Ok-Some.field-0-is) (c.next_element.ensures.visits all_extras c.args.rules c.args.input.now so_far.0 so_far.1) in
     let S : List PageRow → Type 0 = λ rows. AreRows (so_far.0 ++ v ∷ []) rows (n + 1) in
     let around = c.around.ensures ∙ around_is c.elements.last.rows so_far.0 c.in-Ok-Some.element.depth so_far.3 next.3 in
@@ -40,7 +40,7 @@ elements-preserved c =
 pub returns-in-Err : goal.returns-in-Err
 returns-in-Err c =
     let so_far = c.elements.invariant in
-    let P : Result (Option Element) Refusal → Type 0 = λ q. VisitsNext all_extras c.args.rules c.args.input.now so_far.0 c.next_element.new.self q in
+    let P : Result (Option Element) ElementError → Type 0 = λ q. VisitsNext all_extras c.args.rules c.args.input.now so_far.0 c.next_element.new.self q in
     let is = subst P c.in-Err.is (c.next_element.ensures.visits all_extras c.args.rules c.args.input.now so_far.0 so_far.1) in
     let Q : ℕ → Type 0 = λ n. AreRows so_far.0 c.elements.rows n in
     (so_far.0, subst Q (sym c.refused.ensures.rows) so_far.2, inr (c.refused.ensures.refused, c.next_element.new.self, c.in-Err.refusal, is, c.refused.ensures.place, c.refused.ensures.depth ∙ c.depth.ensures))

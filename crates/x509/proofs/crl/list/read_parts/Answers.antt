@@ -2,7 +2,7 @@ use Rattle.std.proofs.Common.{◌-◌, length, take, true}
 use Rattle.std.proofs.lemmas.Result.{err_from_is_err_and}
 use Rattle.der_cursor.specs.Cursors.{octets_left}
 use Rattle.der_values.specs.Kinds.{bit_strings}
-use Rattle.x509.specs.declared.crl.refusal.Field.TheVariants as field
+use Rattle.x509.specs.declared.crl.error.Field.TheVariants as field
 use Rattle.x509.proofs.CrlLaws.CrlLaws.{tbs_same, tbs_taken, named_read, opened_field}
 use Rattle.x509.proofs.ReaderLaws.{end_read, finished, octets_read, octets_refused, step, stop, type_read, value_read, within}
 use Rattle.x509.proofs.crl.list.read_parts.Goals as goal

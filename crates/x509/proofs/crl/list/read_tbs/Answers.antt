@@ -1,6 +1,6 @@
 use Rattle.std.proofs.Common.{true, refl}
 use Rattle.std.proofs.lemmas.Result.{err_from_is_err_and}
-use Rattle.x509.specs.declared.crl.refusal.Field.TheVariants as field
+use Rattle.x509.specs.declared.crl.error.Field.TheVariants as field
 use Rattle.x509.proofs.CrlLaws.CrlLaws.{named_read, opened_field, shorter_field}
 use Rattle.x509.proofs.ReaderLaws.{end_read, finished, step, stop, type_read, within}
 use Rattle.x509.proofs.crl.list.read_tbs.Goals as goal

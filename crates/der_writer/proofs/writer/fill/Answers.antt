@@ -1,8 +1,0 @@
-use Rattle.std.proofs.Common.{arith}
-use Rattle.der_writer.proofs.Moves.{fills_mid}
-use Rattle.der_writer.proofs.writer.fill.Goals as goal
-
-pub returns-then-end-out : goal.returns-then-end-out
-returns-then-end-out c =
-    rw (c.copy_from_slice.ensures.after)
-    (fills_mid c.args.begin c.args.end c.args.out.now c.args.octets.now (omega arith) (omega arith) (c.requires (omega arith)))
