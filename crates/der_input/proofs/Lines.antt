@@ -1,15 +1,17 @@
 -- Where blocks begin.
-use Rattle.std.proofs.Common.{◌≡◌, ℕ, zero, suc, ◌+◌, ◌-◌, ◌<◌, ◌≤◌, ◌&&◌, Bool, true, false, cond, List, length, drop, Option, Some, None, refl, sym, ap, ◌∙◌, arith, codes, inl, inr}
+use Rattle.std.proofs.Common.{◌≡◌, ℕ, zero, suc, ◌+◌, ◌-◌, ◌<◌, ◌≤◌, ◌&&◌, Bool, true, false, cond, List, length, drop, take, Option, Some, None, refl, sym, ap, ◌∙◌, arith, codes, inl, inr}
 use Rattle.std.specs.Borrow.{Bor}
-use Rattle.std.specs.Prelude.{MatchOption, find, slice_index}
+use Rattle.std.specs.Prelude.{MatchOption, find, is_some, slice_index, unwrap_or}
 use Rattle.std.proofs.lemmas.Bool.{cases_order, cases_Bool}
-use Rattle.std.proofs.lemmas.List.{get_or-drop, length-drop}
+use Rattle.std.proofs.lemmas.List.{get_or-drop, get_or-take, length-drop, length-take}
 use Rattle.std.specs.List.{range_with_len}
+use Rattle.std.specs.Option.{option_and_then, option_or}
 use Rattle.bstr.specs.Find.{FindsNeedle, OccursAt, occurs_at}
 use Rattle.bstr.specs.Text.{Contains}
 use Rattle.memchr.proofs.lemmas.MatchLemmas.{OccursAt-true, occurs_at-true}
 use Rattle.der_input.specs.Blocks.{HasLabel, HasNoLabel, OpensBlock, SplitsRound, begins_block, begins_here}
 use Rattle.der_input.specs.Marks.{first_place}
+use Rattle.der_input.specs.Plain.{behind_headers, behind_line, without_headers}
 
 -- what a search of a rest finds, as offsets of the whole
 pub in_rest : (text needle : List ℕ) (from k : ℕ) → from ≤ k → OccursAt text needle k → OccursAt (drop from text) needle (k - from)
@@ -76,6 +78,26 @@ place_is text needle (Some k) some found =
     sym (place_some text needle k some found.1 (λ j less. found.0.before j (omega arith) less))
 place_is text needle None some found =
     sym (place_none text needle (λ j h. found j (omega arith) (omega (arith, h.fits)) h))
+
+-- without a needle, none of its fronts has it
+in_front : (text needle : List ℕ) (n k : ℕ) → OccursAt (take n text) needle k → OccursAt text needle k
+in_front text needle n k h = record {
+  fits = omega (arith, length-take n text, h.fits);
+  reads = λ j small. sym (get_or-take n text (k + j) 0 (omega (arith, length-take n text, h.fits, small))) ∙ h.reads j small;
+}
+
+no_fields : (text line : List ℕ) → ¬ Contains text (codes ": ") → (r : Option ℕ) → option_and_then (λ k. behind_headers text k (k + length line)) r ≡ None
+no_fields text line none None = refl
+no_fields text line none (Some k) =
+    ap (λ p. cond (is_some p) (Some (drop (k + length line) text)) None) (place_none (take k text) (codes ": ") (λ j h. none (j, in_front text (codes ": ") k j h)))
+
+-- and the text has no headers
+pub no_headers : (text : List ℕ) → ¬ Contains text (codes ": ") → text ≡ without_headers text
+no_headers text none =
+    let at : (line : List ℕ) → behind_line text line ≡ None = λ line. no_fields text line none (first_place text line) in
+    sym (ap (λ r. unwrap_or (option_or r (option_or (behind_line text (codes "\n\r\n")) (behind_line text (codes "\\n\\n")))) text) (at (codes "\n\n"))
+    ∙ ap (λ r. unwrap_or (option_or r (behind_line text (codes "\\n\\n"))) text) (at (codes "\n\r\n"))
+    ∙ ap (λ r. unwrap_or r text) (at (codes "\\n\\n")))
 
 -- a block's label ends with dashes, or there are none
 pub labelled : (text block : List ℕ) (r : Option (Bor (List ℕ) × Bor (List ℕ))) → OpensBlock text block

@@ -1,6 +1,5 @@
 //! The characters of base64 (RFC 4648), with what may be between them.
-ghost use Rattle.std.specs.Prelude.{◌≡◌, ◌≤◌, ◌<◌, ◌+◌, true, length};
-ghost use Rattle.std.specs.Prelude.{IfSome};
+ghost use Rattle.std.specs.Prelude.{◌≡◌, ◌≤◌, ◌<◌, ◌+◌, IfSome, length, true};
 ghost use Rattle.std.specs.List.{list_all};
 ghost use Rattle.std.specs.Option.{option_map};
 ghost use Rattle.der_input.specs.Marks.{Puts, first_place};
@@ -9,7 +8,7 @@ ghost use Rattle.der_input.specs.Plain.{characters_from, characters_of, is_base6
 ghost use Rattle.der_input.specs.Plain.{standard_character, without_address, without_headers};
 
 use crate::marks::{after, behind, is_mark, offset_of, put};
-use crate::search::find;
+use crate::search::{contains, find};
 
 /// The octets of an escaped line end, as in JSON.
 pub(crate) const BREAK: usize = 2;
@@ -69,7 +68,7 @@ pub(crate) fn begins_break(text: &[u8]) -> bool
     ensures is { result ≡ begins_break text.now }
     ensures long { result ≡ true → 2 ≤ length text.now }
 {
-    text.starts_with(b"\\n") || text.starts_with(b"\\r")
+    matches!(text, [b'\\', b'n' | b'r', ..])
 }
 
 /// Writes an octet, if it is a character of base64, and returns the next offset.
@@ -77,6 +76,10 @@ fn put_character(octet: u8, room: &mut [u8], at: usize) -> Option<usize>
     requires { at ≤ length room.old }
     ensures { Puts room.old at (character_of octet) room.new result }
 {
+    // Most octets are letters and digits.
+    if octet.is_ascii_alphabetic() || octet.is_ascii_digit() {
+        return put(room, at, octet);
+    }
     if is_character(octet) {
         return put(room, at, standard_character(octet));
     }
@@ -97,6 +100,10 @@ fn without_address(text: &[u8]) -> &[u8]
 fn without_headers(text: &[u8]) -> &[u8]
     ensures { result.now ≡ without_headers text.now }
 {
+    // Most blocks have none.
+    if !contains(text, b": ") {
+        return text;
+    }
     if let Some(rest) = behind_line(text, b"\n\n") {
         return rest;
     }
