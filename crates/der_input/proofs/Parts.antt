@@ -54,7 +54,3 @@ pub part_within : (quote : Option ℕ) (w : List ℕ) → 0 < length w → lengt
 part_within quote [] some = absurd (omega arith)
 part_within quote (c ∷ w) some =
     omega (arith, length-append (part_digits quote (c ∷ w)) (digits_from quote (part_size quote (c ∷ w) - 1) w))
-
-pub character_within : (w : List ℕ) → 0 < length w → begins_break w ≡ false → length (character_of (slice_index w 0)) ≤ length (characters_from 0 w)
-character_within w some h =
-    omega (arith, ap length (characters_more w some h), length-append (character_of (slice_index w 0)) (characters_from 0 (drop 1 w)))

@@ -1,5 +1,5 @@
 //! The characters of base64 (RFC 4648), with what may be between them.
-ghost use Rattle.std.specs.Prelude.{◌≡◌, ◌≤◌, ◌<◌, ◌+◌, IfSome, length, true};
+ghost use Rattle.std.specs.Prelude.{◌≡◌, ◌≢◌, ◌≤◌, ◌<◌, ◌+◌, ◌++◌, [], ◌∷◌, IfSome, IsTrue, drop, length, take, true};
 ghost use Rattle.std.specs.List.{list_all};
 ghost use Rattle.std.specs.Option.{option_map};
 ghost use Rattle.der_input.specs.Marks.{Puts, first_place};
@@ -7,7 +7,7 @@ ghost use Rattle.der_input.specs.Plain.{begins_break, behind_headers, behind_lin
 ghost use Rattle.der_input.specs.Plain.{characters_from, characters_of, is_base64, is_base64_text, is_character};
 ghost use Rattle.der_input.specs.Plain.{standard_character, without_address, without_headers};
 
-use crate::marks::{after, behind, is_mark, offset_of, put};
+use crate::marks::{after, behind, is_mark, offset_of, put, put_all};
 use crate::search::{contains, find};
 
 /// The octets of an escaped line end, as in JSON.
@@ -53,7 +53,11 @@ fn put_characters_among(octets: &[u8], room: &mut [u8]) -> Option<usize>
     let mut rest = octets;
     let mut end = 0;
     'octets: while !rest.is_empty() {
-        if begins_break(rest) {
+        let plain = count_plain(rest);
+        if plain > 0 {
+            end = put_all(room, end, &rest[..plain])?;
+            rest = &rest[plain..];
+        } else if begins_break(rest) {
             rest = &rest[BREAK..];
         } else {
             end = put_character(rest[0], room, end)?;
@@ -61,6 +65,26 @@ fn put_characters_among(octets: &[u8], room: &mut [u8]) -> Option<usize>
         }
     }
     Some(end)
+}
+
+/// The number of letters and digits at the start of a text. They stand for themselves, and most octets are such.
+fn count_plain(text: &[u8]) -> usize
+    ensures within { result ≤ length text.now }
+    ensures plain { characters_from 0 text.now ≡ take result text.now ++ characters_from 0 (drop result text.now) }
+{
+    for (index, octet) in text.iter().enumerate() {
+        if !is_letter_or_digit(*octet) {
+            return index;
+        }
+    }
+    text.len()
+}
+
+fn is_letter_or_digit(octet: u8) -> bool
+    ensures plain { IsTrue result → character_of octet ≡ octet ∷ [] }
+    ensures no_break { IsTrue result → octet ≢ 0x5c }
+{
+    octet.is_ascii_alphabetic() || octet.is_ascii_digit()
 }
 
 /// Returns whether a text begins with an escaped line end, as in JSON.
@@ -76,10 +100,6 @@ fn put_character(octet: u8, room: &mut [u8], at: usize) -> Option<usize>
     requires { at ≤ length room.old }
     ensures { Puts room.old at (character_of octet) room.new result }
 {
-    // Most octets are letters and digits.
-    if octet.is_ascii_alphabetic() || octet.is_ascii_digit() {
-        return put(room, at, octet);
-    }
     if is_character(octet) {
         return put(room, at, standard_character(octet));
     }

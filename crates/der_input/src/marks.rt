@@ -50,10 +50,11 @@ pub(crate) fn put_all(room: &mut [u8], at: usize, octets: &[u8]) -> Option<usize
     requires { at ≤ length room.old }
     ensures { Puts room.old at octets.now room.new result }
 {
-    let mut end = at;
-    'octets: for octet in octets {
-        end = put(room, end, *octet)?;
+    if octets.len() > room.len() - at {
+        return None;
     }
+    let end = at + octets.len();
+    room[at..end].copy_from_slice(octets);
     Some(end)
 }
 
