@@ -25,14 +25,15 @@ usage_text w = codes "      Uses:" ++ (uses_text w ++ codes "\n")
 -- ReasonFlags ::= BIT STRING { unused (0), keyCompromise (1), .., aACompromise (8) }
 abbrev pub flags_text : List ℕ → List ℕ
 flags_text w =
-    use_text (is_bit_set 1 w) (codes "keyCompromise")
+    use_text (is_bit_set 0 w) (codes "unused")
+    ++ (use_text (is_bit_set 1 w) (codes "keyCompromise")
     ++ (use_text (is_bit_set 2 w) (codes "cACompromise")
     ++ (use_text (is_bit_set 3 w) (codes "affiliationChanged")
     ++ (use_text (is_bit_set 4 w) (codes "superseded")
     ++ (use_text (is_bit_set 5 w) (codes "cessationOfOperation")
     ++ (use_text (is_bit_set 6 w) (codes "certificateHold")
     ++ (use_text (is_bit_set 7 w) (codes "privilegeWithdrawn")
-    ++ use_text (is_bit_set 8 w) (codes "aACompromise")))))))
+    ++ use_text (is_bit_set 8 w) (codes "aACompromise"))))))))
 
 abbrev pub reasons_text : List ℕ → List ℕ → List ℕ
 reasons_text label w = label ++ (flags_text w ++ codes "\n")

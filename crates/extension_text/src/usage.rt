@@ -67,6 +67,7 @@ pub(crate) fn write_reasons<W: fmt::Write>(
 fn write_flags<W: fmt::Write>(f: &mut fmt::Formatter<W>, bits: BitString<'_>) -> fmt::Result
     ensures { DisplaysOnOk W.Write.write_str_gives f.old result (Some (flags_text bits.entry.octets.now)) f.new }
 {
+    write_use(f, bits, 0, "unused")?;
     write_use(f, bits, 1, "keyCompromise")?;
     write_use(f, bits, 2, "cACompromise")?;
     write_use(f, bits, 3, "affiliationChanged")?;
