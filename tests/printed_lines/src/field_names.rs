@@ -3,6 +3,7 @@
 //!
 //! A line of input has the name of a type, ascending offsets of elements, and the octets. The line of output has the
 //! names of these elements, or with the argument `paths` their paths, and the first known type that the octets are of.
+//! With `elements` it also says whether octets of no known type have the elements of the one that the line names.
 //! SNMP, LDAP and Kerberos, which asn1crypto doesn't read, have no offsets, or names and paths as their documents say.
 
 use anyhow::{Context, Result};
@@ -10,8 +11,8 @@ use der_base::rules::Rules;
 use der_known::KnownTypes;
 use der_schema::schema::{Component, Type};
 use der_schema::{
-    KnownType, Name, NamePath, Namer, Schema, field, first_named, first_of, optional, set, string,
-    universal,
+    KnownType, Name, NamePath, Namer, Schema, field, first_named, first_of, is_of_type, optional, set,
+    string, universal,
 };
 use der_elements::Walk;
 use std::env;
@@ -30,7 +31,11 @@ const SET_OF_THREE: Type = set![
 
 /// Prints the names or the paths of each input.
 pub fn print_input(rt: &HostRuntime) -> Result<()> {
-    let has_paths = env::args(rt)?.skip(2).next().is_some();
+    let argument = env::args(rt)?.skip(2).next();
+    let (has_paths, has_elements) = match argument {
+        Some(word) => (word.as_str() == "paths", word.as_str() == "elements"),
+        None => (false, false),
+    };
     let known = KnownTypes::new();
     let types: [&'static Component; 1] = [&SET];
     let mut input = String::new(rt.alloc());
@@ -44,7 +49,9 @@ pub fn print_input(rt: &HostRuntime) -> Result<()> {
         print_names(rt, &octets, schema, offsets, has_paths)?;
         let set = first_of(SETS, &types, &octets, Rules::Der);
         let found = known.type_of(&octets, Rules::Der).or(set);
-        println!(rt; "{}", found.map_or("none", |it| it.name))?;
+        let is_by_elements = has_elements && found.is_none() && is_of_type(&octets, Rules::Der, schema);
+        let remark = if is_by_elements { " by its signs" } else { "" };
+        println!(rt; "{}{remark}", found.map_or("none", |it| it.name))?;
     }
     Ok(())
 }
