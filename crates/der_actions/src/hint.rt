@@ -1,16 +1,21 @@
-//! The paths that a user may have meant.
+//! The paths and types that a user may have meant.
 use crate::fields::Fields;
 use crate::naming::schema_of;
 use crate::options::Options;
 use der_elements::{Element, Walk};
+use der_known::KnownTypes;
 use der_print::octets_or_none;
 use oid_names::name_among;
 use std::alloc::{AllocError, Global};
-use std::io;
 use std::io::Write;
+use std::{fmt, io};
+use strsim::jaro;
 
 /// The most paths of a hint.
 const MOST: usize = 3;
+
+/// The similarity above which a name is suggested, as clap does it for options.
+const SIMILARITY: f64 = 0.7;
 
 /// The universal number of an OBJECT IDENTIFIER.
 const OBJECT_IDENTIFIER: u32 = 6;
@@ -119,13 +124,31 @@ fn is_step(step: &str, name: &str) -> bool {
     step.eq_ignore_ascii_case(name) || without_index.eq_ignore_ascii_case(name)
 }
 
-/// Writes paths as a question.
-pub(crate) fn write_hint<X: Write>(paths: &[String], err: &mut X) -> io::Result<()> {
-    for (index, path) in paths.iter().enumerate() {
-        let before = if index == 0 { "; did you mean" } else { " or" };
-        write!(err, "{before} {path}")?;
+/// The name of the known type that is most similar to a word, if one is similar.
+pub(crate) fn likely_type(
+    alloc: Global,
+    word: &str,
+    types: &KnownTypes,
+) -> Result<Option<&'static str>, AllocError> {
+    let mut likely = None;
+    let mut most = SIMILARITY;
+    for known in types.known() {
+        let similarity = jaro(alloc, word, known.name)?;
+        if similarity > most {
+            most = similarity;
+            likely = Some(known.name);
+        }
     }
-    if !paths.is_empty() {
+    Ok(likely)
+}
+
+/// Writes paths or names as a question.
+pub(crate) fn write_hint<T: fmt::Display, X: Write>(names: &[T], err: &mut X) -> io::Result<()> {
+    for (index, name) in names.iter().enumerate() {
+        let before = if index == 0 { "; did you mean" } else { " or" };
+        write!(err, "{before} {name}")?;
+    }
+    if !names.is_empty() {
         write!(err, "?")?;
     }
     Ok(())

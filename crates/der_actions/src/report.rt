@@ -5,7 +5,7 @@ ghost use Rattle.der_actions.specs.Namings.{IsAsAsked};
 ghost use Rattle.der_actions.specs.Outputs.{AreSomeElements};
 ghost use Rattle.der_actions.specs.declared.options.Action.{Action};
 
-use crate::hint::{likely_paths, write_hint};
+use crate::hint::{likely_paths, likely_type, write_hint};
 use crate::listing::Listing;
 use crate::name::Name;
 use crate::naming::is_as_asked;
@@ -195,17 +195,20 @@ fn report_fit<X: Write>(
     }
 }
 
-/// Reports that no known type has this name, and lists the names of the known types.
+/// Reports that no known type has this name. Suggests a similar name, and lists the names of the known types.
 pub fn report_unknown_type<X: Write>(
+    alloc: Global,
     name: Option<&str>,
     types: &KnownTypes,
     err: &mut X,
 ) -> io::Result<()> {
-    let name = Name(name.unwrap_or(""));
-    write!(
-        err,
-        "der: no known type has the name {name}. These are known:"
-    )?;
+    let name = name.unwrap_or("");
+    write!(err, "der: no known type has the name {}", Name(name))?;
+    match likely_type(alloc, name, types)? {
+        Some(likely) => write_hint(&[likely], err)?,
+        None => write!(err, ".")?,
+    }
+    write!(err, " These are known:")?;
     for known in types.known() {
         write!(err, " {}", known.name)?;
     }

@@ -31,7 +31,7 @@ pub(crate) fn asked_naming<'a, R: Files + AllocGlobal, X: Write>(
     let word = word_of(matches, "as");
     match (word, matches.get_strs("asn1")) {
         (Some(word), Some(names)) => naming_in(rt, names, word, err),
-        _ => known_naming(action, word, types, err),
+        _ => known_naming(rt.alloc(), action, word, types, err),
     }
 }
 
@@ -56,6 +56,7 @@ fn naming_in<'a, R: Files + AllocGlobal, X: Write>(
 
 /// The naming by the known types. None if no type has the name, which is reported.
 fn known_naming<'a, X: Write>(
+    alloc: Global,
     action: Action,
     word: Option<&str>,
     types: &'a KnownTypes,
@@ -66,7 +67,7 @@ fn known_naming<'a, X: Write>(
 {
     let naming = naming_of(action, word, types);
     if naming.is_none() {
-        report_unknown_type(word, types, err)?;
+        report_unknown_type(alloc, word, types, err)?;
     }
     Ok(naming)
 }
