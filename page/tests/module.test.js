@@ -7,7 +7,9 @@ import { BER, DER, Elements, ERRORS, FORMS, Reader, rowIn } from "../src/module.
 import { octetsOf } from "./elements.js";
 
 const DATA = new URL("../../crates/der/data/", import.meta.url);
+const RUNS = new URL("../runs/", DATA);
 const read = (name) => new Uint8Array(readFileSync(new URL(name, DATA)));
+const storedLines = (name) => readFileSync(new URL(`${name}/stdout`, RUNS), "utf8").trimEnd().split("\n");
 const given = process.env.PAGE_HTML;
 
 function moduleOf(page) {
@@ -134,6 +136,8 @@ withModule("a value by BER that breaks its type", () => {
 withModule("why DER has no form of an input", () => {
   const found = elementsIn("30 80 17 0b 39 39 31 32 33 31 32 33 35 39 5a 00 00").canonical();
   assert.match(found.fault, /^at 2, SEQUENCE\[0\]\.UTCTime\[0\]: .*\(X\.690 11\.7\.2/);
+  // The number 30 isn't in the leading octet
+  assert.match(elementsIn("30 03 1f 1e 00").canonical().fault, /^at 2, SEQUENCE\[0\]: .*\(X\.690 8\.1\.2\.[24]\)$/);
   const { octets } = elementsIn("30 80 01 01 05 00 00").canonical();
   assert.equal(Buffer.from(octets).toString("hex"), "30030101ff");
 });
@@ -151,24 +155,31 @@ withModule("a certificate expires, and when", () => {
 
 withModule("the type of an input, also by BER, and the names of its fields (RFC 5280 4.1)", () => {
   const octets = read("certificate.der");
-  const { type, names } = reader.read(octets).fields;
+  const elements = reader.read(octets);
+  const { type, names } = elements.fields;
   const tbs = ["tbsCertificate", "version", "", "serialNumber", "signature"];
   assert.deepEqual([type, ...names.slice(1, 6)], ["Certificate", ...tbs]);
+  // Inside the OCTET STRING of subjectAltName (4.2.1.6)
+  const offsets = Array.from({ length: elements.count }, (_, number) => elements.row(number).offset);
+  assert.deepEqual([349, 362].map((offset) => names[offsets.indexOf(offset)]), ["dNSName", "iPAddress"]);
   const inBer = Uint8Array.from([0x30, 0x80, ...octets.subarray(4), 0, 0]);
   assert.deepEqual(reader.read(inBer).fields, { type, names });
+  // An "@" in the PrintableString at 55
+  assert.deepEqual(reader.read(octets.with(57, 0x40)).fields, { type, names }, "a value that breaks its type");
   assert.deepEqual(elementsIn("05 00").fields, { type: "", names: [] });
 });
 
 // Another program prints these lines: der tree --as none
 withModule("the line of an element is that of der tree", () => {
-  const runs = new URL("../runs/tree_without_names/stdout", DATA);
-  const stored = readFileSync(runs, "utf8").split("\n");
+  const linesOf = (elements) => Array.from({ length: elements.count }, (_, number) => elements.lineOf(number, false));
+  const stored = storedLines("tree_without_names");
   for (const name of ["certificate.der", "message.cms", "texts.der"]) {
-    const elements = reader.read(read(name));
-    const lines = Array.from({ length: elements.count }, (_, number) => elements.lineOf(number, false));
+    const lines = linesOf(reader.read(read(name)));
     const begin = stored.indexOf(`${name}:`) + 1;
-    assert.deepEqual(lines, stored.slice(begin, begin + elements.count), name);
+    assert.deepEqual(lines, stored.slice(begin, begin + lines.length), name);
   }
+  const strings = readFileSync(new URL("tree_of_strings_that_hold_ber/stdin", RUNS), "utf8");
+  assert.deepEqual(linesOf(elementsIn(strings.trim())), storedLines("tree_of_strings_that_hold_ber"));
 });
 
 withModule("a long value is cut, or not", () => {
