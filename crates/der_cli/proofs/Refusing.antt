@@ -1,15 +1,39 @@
 -- Refusals of inputs and of their blocks.
-use Rattle.std.proofs.Common.{◌≡◌, ◌≢◌, ◌⊎◌, ◌+◌, ◌<◌, ◌≤◌, ℕ, suc, Bool, Err, IfErr, IfOk, IsErr, MatchResult, Ok, Result, false, inl, inr, List, ◌++◌, ap, arith, codes, length, refl, subst, sym, true}
+use Rattle.std.proofs.Common.{◌≡◌, ◌≢◌, ◌⊎◌, ◌+◌, ◌<◌, ◌≤◌, ℕ, suc, Bool, Err, IfErr, IfOk, IsErr, IsTrue, MatchResult, Ok, OnOk, Result, false, inl, inr, List, ◌++◌, ap, arith, codes, length, refl, subst, sym, true}
 use Rattle.std.proofs.lemmas.List.{length-append, length-drop}
 use Rattle.der_input.specs.declared.error.FormError.{FormError}
 use Rattle.der_input.specs.declared.error.FormError.TheVariants.{OutOfMemory}
 use Rattle.der_input.specs.Blocks.{BeginsWithBlock}
 use Rattle.der_cli.specs.Inputs.{IsAfterBlocks, after_more, after_none}
 
--- what holds whatever is returned
-pub refuses_all : {E : Type 0} (r : Result Bool E) (P : Type 0) → P → IfOk r (λ ok. ok ≡ false → P)
-refuses_all (Ok x) P p = λ no. p
-refuses_all (Err e) P p = tt
+-- what holds if something was told
+pub refuses_told : {E : Type 0} (r : Result Bool E) (T P : Type 0) → OnOk r T → (T → P) → IfOk r (λ ok. ok ≡ false → P)
+refuses_told (Ok x) T P t f = λ no. f t
+refuses_told (Err e) T P t f = tt
+
+-- what is told under a condition
+pub told_if : {E : Type 0} (r : Result Bool E) (A P : Type 0) → (A → OnOk r P) → OnOk r (A → P)
+told_if (Ok x) A P f = f
+told_if (Err e) A P f = tt
+
+-- what is taken, by whether it is accepted
+pub taken_so : {E : Type 0} (r : Result Bool E) (P Q : Type 0) (R : Bool → Type 0) → IfOk r (λ ok. IsTrue ok → P) → IfOk r (λ ok. ok ≡ false → Q) → (P → R true)
+    → (Q → R false) → IfOk r R
+taken_so (Ok true) P Q R p q f g = f (p refl)
+taken_so (Ok false) P Q R p q f g = g (q refl)
+taken_so (Err e) P Q R p q f g = tt
+
+pub taken_not : {E : Type 0} (r : Result Bool E) (T : Type 0) (R : Bool → Type 0) → IfOk r (λ ok. ok ≡ false) → OnOk r T → (T → R false) → IfOk r R
+taken_not (Ok x) T R is t f = subst R (sym is) (f t)
+taken_not (Err e) T R is t f = tt
+
+pub when_true : {E : Type 0} (r : Result Bool E) (R : Bool → Type 0) (P : Type 0) → IfOk r R → (R true → P) → IfOk r (λ ok. IsTrue ok → P)
+when_true (Ok x) R P t f = λ is. f (subst R is t)
+when_true (Err e) R P t f = tt
+
+pub when_false : {E : Type 0} (r : Result Bool E) (R : Bool → Type 0) (P : Type 0) → IfOk r R → (R false → P) → IfOk r (λ ok. ok ≡ false → P)
+when_false (Ok x) R P t f = λ is. f (subst R is t)
+when_false (Err e) R P t f = tt
 
 false_is_not_true : {P : Type 0} → false ≡ true → P
 false_is_not_true e = cc
@@ -24,11 +48,11 @@ no_octets_after (Ok v) y failed w e = cc
 no_octets_after (Err x) y failed w e = cc
 
 -- digits are octets that are refused, or no digits
-pub of_digits : {A : Type 0} (r : Result A FormError) (P S : A → Type 0) (Q : FormError → Type 0) (R : Type 0) → MatchResult r P (λ e. e ≢ OutOfMemory)
-    → IfOk r S → IfErr r (λ e. (e ≡ OutOfMemory) ⊎ Q e) → ((v : A) → S v → P v → R) → ((e : FormError) → Q e → R) → R
-of_digits (Ok v) P S Q R p s e f g = f v s p
-of_digits (Err y) P S Q R p s (inl none) f g = absurd (p none)
-of_digits (Err y) P S Q R p s (inr why) f g = g y why
+pub of_digits : {A : Type 0} (r : Result A FormError) (P S : A → Type 0) (Q : FormError → Type 0) (T R : Type 0) → MatchResult r P (λ e. (e ≢ OutOfMemory) × T)
+    → IfOk r S → IfErr r (λ e. (e ≡ OutOfMemory) ⊎ Q e) → ((v : A) → S v → P v → R) → ((e : FormError) → Q e → T → R) → R
+of_digits (Ok v) P S Q T R p s e f g = f v s p
+of_digits (Err y) P S Q T R p s (inl none) f g = absurd (p.0 none)
+of_digits (Err y) P S Q T R p s (inr why) f g = g y why p.1
 
 behind : (a b : List ℕ) → length b ≤ length (a ++ b)
 behind a b = let e = length-append a b in omega (arith, e)

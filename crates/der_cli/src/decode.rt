@@ -81,7 +81,7 @@ fn octets_of_blocks<X: Write>(
     text: &[u8],
     err: &mut X,
 ) -> io::Result<Option<Vec<u8>>>
-    ensures { IfOk result (λ found. MatchOption found (FailsAtBlock AreUndecoded text.now)
+    ensures { IfOk result (λ found. MatchOption found (FailsAtBlock text.now)
         (λ octets. (n : ℕ) × (0 < n) × JoinsBlocks n text.now octets.items)) }
 {
     let mut octets = Vec::new(alloc);

@@ -1,12 +1,11 @@
 //! The action of a subcommand on an input.
-ghost use Rattle.std.specs.Prelude.{◌≡◌, ◌≢◌, ◌<◌, ◌↔◌, ℕ, IfErr, IfOk, IsOkAnd, IsTrue, MatchBool, MatchResult};
+ghost use Rattle.std.specs.Prelude.{◌≡◌, ◌≢◌, ◌↔◌, IfErr, IfOk, IsOkAnd, IsTrue, MatchBool, MatchResult};
 ghost use Rattle.std.specs.Prelude.{None, Ok, OnOk, Some, false};
 ghost use Rattle.der_input.specs.declared.error.FormError.{FormError};
 ghost use Rattle.der_input.specs.declared.form.Form.{Form};
 ghost use Rattle.der_input.specs.Blocks.{label_of, lines_of};
 ghost use Rattle.der_input.specs.Forms.{FindsNoForm};
-ghost use Rattle.der_cli.specs.Inputs.{FailsAtBlock, IsFormOf, ReadsBlock, ReadsBlocks, ReadsInput, RefusesBlock};
-ghost use Rattle.der_cli.specs.Inputs.{RefusesInput};
+ghost use Rattle.der_cli.specs.Inputs.{IsFormOf, ReadsInput, RefusesInput, TakesBlock, TakesPem, TellsWhy};
 ghost use Rattle.der_actions.specs.Outputs.{IsChecked};
 ghost use Rattle.der_cli.specs.Outputs.{IsRefusedBy, RefusesFile, Writes, WritesFile, WritesHeading};
 ghost use Rattle.der_cli.specs.Outputs.{WritesInside, WritesName, has_heading};
@@ -86,7 +85,7 @@ fn act_on_decoded<W: Write, X: Write>(
         (W.contents out.old) (W.contents out.new))) }
     ensures refused { IfOk result (λ ok. ok ≡ false → MatchResult decoded
         (λ v. RefusesFile options.now name.now v.items (W.contents out.old) (W.contents out.new))
-        (λ e. e ≢ FormError.OutOfMemory)) }
+        (λ e. (e ≢ FormError.OutOfMemory) × TellsWhy options.now (W.contents out.old) (W.contents out.new))) }
 {
     match decoded {
         Ok(octets) => act_on_file(alloc, options, name, &octets, out, err),
@@ -190,9 +189,7 @@ fn act_on_blocks<W: Write, X: Write>(
     out: &mut W,
     err: &mut X,
 ) -> io::Result<bool>
-    ensures read { IfOk result (λ ok. IsTrue ok → (n : ℕ) × (0 < n)
-        × ReadsBlocks options.now name.now n text.now (W.contents out.old) (W.contents out.new)) }
-    ensures refused { IfOk result (λ ok. ok ≡ false → FailsAtBlock (RefusesBlock options.now) text.now) }
+    ensures { IfOk result (TakesPem options.now name.now text.now (W.contents out.old) (W.contents out.new)) }
 {
     let mut rest = text;
     let mut are_read = true;
@@ -222,10 +219,8 @@ fn act_on_block<'x, W: Write, X: Write>(
     out: &mut W,
     err: &mut X,
 ) -> io::Result<bool>
-    ensures read { IfOk result (λ ok. IsTrue ok
-        → ReadsBlock options.now name.now (label_of block.now) (lines_of block.now)
+    ensures { IfOk result (TakesBlock options.now name.now (label_of block.now) (lines_of block.now)
         (W.contents out.old) (W.contents out.new)) }
-    ensures refused { IfOk result (λ ok. ok ≡ false → RefusesBlock options.now (lines_of block.now)) }
 {
     let label = block.label;
     write_label(options, name, label, out)?;
@@ -271,7 +266,8 @@ fn refuse_file<W: Write, X: Write>(
     out: &mut W,
     err: &mut X,
 ) -> io::Result<bool>
-    ensures { IfOk result (λ ok. ok ≡ false) }
+    ensures refused { IfOk result (λ ok. ok ≡ false) }
+    ensures told { OnOk result (TellsWhy options.now (W.contents out.old) (W.contents out.new)) }
 {
     refuse_form(options, Origin { name, block: None }, e, out, err)
 }

@@ -3,7 +3,7 @@ use Rattle.der_input.specs.declared.error.FormError.{FormError}
 use Rattle.der_input.specs.declared.error.FormError.TheVariants as error
 use Rattle.der_input.specs.declared.form.Form.{Form}
 use Rattle.der_input.specs.declared.form.Form.TheVariants.{Pem}
-use Rattle.der_cli.specs.Inputs.{AreUndecoded, Decodes, FailsAtBlock, IsDecoded, IsFormOf, IsUndecoded, JoinsBlocks, Spells, without_form, without_octets}
+use Rattle.der_cli.specs.Inputs.{Decodes, FailsAtBlock, IsDecoded, IsFormOf, IsUndecoded, JoinsBlocks, Spells, without_form, without_octets}
 use Rattle.der_cli.proofs.Opening.{on_decoded, on_found, reason_left}
 use Rattle.der_cli.proofs.decode.octets_in.Goals as goal
 
@@ -19,7 +19,7 @@ pub returns-in-Ok-Pem : goal.returns-in-Ok-Pem
 returns-in-Ok-Pem g c =
     let i = c.args.input.now in
     let form = rw c.in-Ok-Pem.field-0-is at c.in-Ok-Pem.ensures.found in
-    on_found c.octets_of_blocks.result (FailsAtBlock AreUndecoded i) (IsUndecoded c.args.asked i) (λ (v : Vec ℕ Global). (n : ℕ) × (0 < n) × JoinsBlocks n i v.items)
+    on_found c.octets_of_blocks.result (FailsAtBlock i) (IsUndecoded c.args.asked i) (λ (v : Vec ℕ Global). (n : ℕ) × (0 < n) × JoinsBlocks n i v.items)
     (λ v. IsDecoded c.args.asked i v.items) (λ fails. inr (form, fails)) (λ v joins. (Pem, form, joins)) c.octets_of_blocks.ensures
 
 pub returns-in-Ok : goal.returns-in-Ok

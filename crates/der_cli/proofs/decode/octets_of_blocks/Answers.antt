@@ -1,6 +1,6 @@
 use Rattle.std.proofs.Common.{◌≡◌, ◌∙◌, ◌+◌, ◌++◌, ◌<◌, [], Global, Vec, ap, append-nil, append_assoc, arith, refl, subst, suc, sym, ℕ}
 use Rattle.der_input.specs.Forms.{HasNoBlock}
-use Rattle.der_cli.specs.Inputs.{AreUndecoded, FailsAtBlock, JoinsBlocks, after_none, broken_block, failed_block, joins_more, joins_none, without_blocks}
+use Rattle.der_cli.specs.Inputs.{FailsAtBlock, JoinsBlocks, after_none, broken_block, failed_block, joins_more, joins_none, without_blocks}
 use Rattle.der_cli.proofs.Opening.{found_none}
 use Rattle.der_cli.proofs.Refusing.{after_next, before_first, few_blocks}
 use Rattle.der_cli.proofs.decode.octets_of_blocks.Goals.{else-loop-before-test, then-loop-before-test+in-Ok-Some+in_ok-decoded-in-Ok-Some+in-Some+in_ok-extend_from_slice-in-Ok-Some+else-before-before-end}
@@ -21,13 +21,13 @@ returns-in-Ok-None-2 g c =
     let text = c.args.text.now in
     let none = rw c.in-Ok-None.field-0-is at c.in-Ok-None.ensures.ok in
     let first = subst HasNoBlock (before_first c.loop-before.invariant.after (omega (arith, c.if-before-gt0.false))) none in
-    found_none c.report_nothing.result (FailsAtBlock AreUndecoded text) (λ (v : Vec ℕ Global). (n : ℕ) × (0 < n) × JoinsBlocks n text v.items) (without_blocks first)
+    found_none c.report_nothing.result (FailsAtBlock text) (λ (v : Vec ℕ Global). (n : ℕ) × (0 < n) × JoinsBlocks n text v.items) (without_blocks first)
     c.report_nothing.ensures
 
 pub returns-in-Err : goal.returns-in-Err
 returns-in-Err g c =
     let text = c.args.text.now in
-    found_none c.report_nothing-in-Err.result (FailsAtBlock AreUndecoded text) (λ (v : Vec ℕ Global). (n : ℕ) × (0 < n) × JoinsBlocks n text v.items)
+    found_none c.report_nothing-in-Err.result (FailsAtBlock text) (λ (v : Vec ℕ Global). (n : ℕ) × (0 < n) × JoinsBlocks n text v.items)
     (broken_block c.loop-before.before c.loop-before.rest.now c.in-Err.e c.loop-before.invariant.after c.in-Err.ensures.err) c.report_nothing-in-Err.ensures
 
 pub returns-in_default : goal.returns-in_default

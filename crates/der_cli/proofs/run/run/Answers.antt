@@ -1,4 +1,4 @@
-use Rattle.std.proofs.Common.{◌≡◌, ◌≢◌, ◌<◌, Err, IfOk, IsErr, IsOkAnd, MatchResult, Ok, Result, refl, ℕ}
+use Rattle.std.proofs.Common.{◌≡◌, ◌≢◌, Err, IfOk, IsErr, IsOkAnd, MatchResult, Ok, Result, refl}
 use Rattle.base64.specs.Engines.{standard_pad_indifferent}
 use Rattle.base64.specs.GeneralPurpose.{decode_of as base64_decode_of}
 use Rattle.hex.specs.Hex.{decode_of as hex_decode_of}
@@ -6,10 +6,10 @@ use Rattle.der_input.specs.declared.error.FormError.TheVariants as error
 use Rattle.der_input.specs.declared.form.Form.TheVariants.{Base64, Der, Hex, Pem}
 use Rattle.der_input.specs.Faults.{IsBase64Error}
 use Rattle.der_input.specs.Plain.{characters_of, digits_of}
-use Rattle.der_cli.specs.Inputs.{FailsAtBlock, ReadsBlocks, ReadsInput, RefusesBlock, RefusesInput, blocks, octets, refused_blocks, refused_octets, undecoded_input, without_form, without_octets}
+use Rattle.der_cli.specs.Inputs.{ReadsInput, RefusesInput, TakesPem, TellsWhy, blocks, octets, refused_blocks, refused_octets, undecoded_input, without_form, without_octets}
 use Rattle.der_cli.specs.Outputs.{RefusesFile, WritesFile}
 use Rattle.der_actions.proofs.Printing.{then_reads, then_refuses}
-use Rattle.der_cli.proofs.Refusing.{no_octets, no_octets_after, of_digits, refuses_all}
+use Rattle.der_cli.proofs.Refusing.{no_octets, no_octets_after, of_digits, refuses_told, when_false, when_true}
 use Rattle.der_cli.proofs.run.run.Goals as goal
 
 both : {A E : Type 0} (r : Result A E) (P Q : A → Type 0) → IsOkAnd r P → IfOk r Q → (v : A) × P v × Q v
@@ -37,8 +37,7 @@ returns-in-Ok-Pem-clause-read g c =
     let old = g.W.Write.contents c.args.out.now in
     let new = g.W.Write.contents c.act_on_blocks.new.out in
     let form = rw c.in-Ok-Pem.field-0-is at c.in-Ok-Pem.ensures.found in
-    then_reads c.act_on_blocks.result ((n : ℕ) × (0 < n) × ReadsBlocks o name n i old new) (ReadsInput o name i old new) (λ k. blocks k.0 form k.1 k.2)
-    c.act_on_blocks.ensures.read
+    when_true c.act_on_blocks.result (TakesPem o name i old new) (ReadsInput o name i old new) c.act_on_blocks.ensures (λ k. blocks form k)
 
 pub returns-in-Ok-Hex-clause-read : goal.returns-in-Ok-Hex-clause-read
 returns-in-Ok-Hex-clause-read g c =
@@ -93,7 +92,7 @@ returns-in-Ok-Pem-clause-refused g c =
     let old = g.W.Write.contents c.args.out.now in
     let new = g.W.Write.contents c.act_on_blocks.new.out in
     let form = rw c.in-Ok-Pem.field-0-is at c.in-Ok-Pem.ensures.found in
-    then_refuses c.act_on_blocks.result (FailsAtBlock (RefusesBlock o) i) (RefusesInput o name i old new) (λ no. refused_blocks form no) c.act_on_blocks.ensures.refused
+    when_false c.act_on_blocks.result (TakesPem o name i old new) (RefusesInput o name i old new) c.act_on_blocks.ensures (λ k. refused_blocks form k)
 
 pub returns-in-Ok-Hex-clause-refused : goal.returns-in-Ok-Hex-clause-refused
 returns-in-Ok-Hex-clause-refused g c =
@@ -105,10 +104,10 @@ returns-in-Ok-Hex-clause-refused g c =
     let r = c.decode_hex.result in
     let form = rw c.in-Ok-Hex.field-0-is at c.in-Ok-Hex.ensures.found in
     let spelled = hex_decode_of (digits_of i) in
-    then_refuses c.act_on_decoded.result (MatchResult r (λ v. RefusesFile o name v.items old new) (λ e. e ≢ error.OutOfMemory)) (RefusesInput o name i old new)
+    then_refuses c.act_on_decoded.result (MatchResult r (λ v. RefusesFile o name v.items old new) (λ e. (e ≢ error.OutOfMemory) × TellsWhy o old new)) (RefusesInput o name i old new)
     (λ h.
-    of_digits r (λ v. RefusesFile o name v.items old new) (λ v. spelled ≡ Ok v.items) (λ e. (e ≡ error.Hex) × IsErr spelled) (RefusesInput o name i old new) h c.decode_hex.ensures.ok c.decode_hex.ensures.err
-    (λ v spells no. refused_octets Hex v.items form spells no) (λ e failed. undecoded_input (without_octets Hex form hex_is_no_pem (no_octets spelled failed.1))))
+    of_digits r (λ v. RefusesFile o name v.items old new) (λ v. spelled ≡ Ok v.items) (λ e. (e ≡ error.Hex) × IsErr spelled) (TellsWhy o old new) (RefusesInput o name i old new) h c.decode_hex.ensures.ok c.decode_hex.ensures.err
+    (λ v spells no. refused_octets Hex v.items form spells no) (λ e failed told. undecoded_input (without_octets Hex form hex_is_no_pem (no_octets spelled failed.1)) told))
     c.act_on_decoded.ensures.refused
 
 pub returns-in-Ok-Base64-clause-refused : goal.returns-in-Ok-Base64-clause-refused
@@ -121,14 +120,15 @@ returns-in-Ok-Base64-clause-refused g c =
     let r = c.decode_base64.result in
     let form = rw c.in-Ok-Base64.field-0-is at c.in-Ok-Base64.ensures.found in
     let spelled = base64_decode_of standard_pad_indifferent (characters_of i) in
-    then_refuses c.act_on_decoded-in-Ok-Base64.result (MatchResult r (λ v. RefusesFile o name v.items old new) (λ e. e ≢ error.OutOfMemory)) (RefusesInput o name i old new)
+    then_refuses c.act_on_decoded-in-Ok-Base64.result (MatchResult r (λ v. RefusesFile o name v.items old new) (λ e. (e ≢ error.OutOfMemory) × TellsWhy o old new)) (RefusesInput o name i old new)
     (λ h.
-    of_digits r (λ v. RefusesFile o name v.items old new) (λ v. spelled ≡ Ok v.items) (IsBase64Error i) (RefusesInput o name i old new) h c.decode_base64.ensures.ok c.decode_base64.ensures.err
+    of_digits r (λ v. RefusesFile o name v.items old new) (λ v. spelled ≡ Ok v.items) (IsBase64Error i) (TellsWhy o old new) (RefusesInput o name i old new) h c.decode_base64.ensures.ok c.decode_base64.ensures.err
     (λ v spells no. refused_octets Base64 v.items form spells no)
-    (λ e failed. undecoded_input (without_octets Base64 form base64_is_no_pem (no_octets_after spelled failed.2.0 failed.2.1))))
+    (λ e failed told. undecoded_input (without_octets Base64 form base64_is_no_pem (no_octets_after spelled failed.2.0 failed.2.1)) told))
     c.act_on_decoded-in-Ok-Base64.ensures.refused
 
 pub returns-in-Err-clause-refused : goal.returns-in-Err-clause-refused
 returns-in-Err-clause-refused g c =
     let none = c.in-Err.ensures.none in
-    refuses_all c.refuse_file.result (RefusesInput c.args.options.now c.args.name.now c.args.input.now _ _) (undecoded_input (without_form _ none.0 none.1))
+    refuses_told c.refuse_file.result _ (RefusesInput c.args.options.now c.args.name.now c.args.input.now _ _) c.refuse_file.ensures.told
+    (λ told. undecoded_input (without_form _ none.0 none.1) told)
