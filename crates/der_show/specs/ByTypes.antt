@@ -15,14 +15,20 @@ use Rattle.der_show.specs.declared.words.Words.{Words as Summary}
 use Rattle.type_words.specs.Items.{items_of}
 use Rattle.type_words.specs.Lines.{AreLines}
 
--- the words of a type for octets, which are elements of BER
-pub record AreTypeWords (sc : Schema) (i : List ℕ) (w : Summary) : Type 0 where
+-- the words of a type for octets, which are elements of BER, and the name that is told of the type
+pub record AreWordsNamed (name : Option (List ℕ)) (sc : Schema) (i : List ℕ) (w : Summary) : Type 0 where
   pub elements : List Visited
   pub visits : Visits all_extras Ber 101 0 0 i elements
   pub lines : AreLines (items_of (root_of sc) i elements) w.text.items
   pub start : w.words_at ≡ 0
   pub rules : w.keeps_rules ≡ true
-  pub by_type : option_map (λ n. n.now) w.by_type ≡ Some sc.name.now
+  pub by_type : option_map (λ n. n.now) w.by_type ≡ name
+
+abbrev pub AreTypeWords : Schema → List ℕ → Summary → Type 0
+AreTypeWords sc i w = AreWordsNamed (Some sc.name.now) sc i w
+
+abbrev pub AreLinesAlone : Schema → List ℕ → Summary → Type 0
+AreLinesAlone sc i w = AreWordsNamed None sc i w
 
 -- the words of the type with this name
 abbrev pub AreWords : KnownTypes → List ℕ → List ℕ → Summary → Type 0

@@ -1,17 +1,17 @@
 -- Octets of a known type, with the names of their fields.
-use Rattle.std.specs.Prelude.{◌≡◌, ◌⊎◌, ◌↔◌, ℕ, Bool, true, false, IsTrue, ◌&&◌, Option, Some, None}
+use Rattle.std.specs.Prelude.{◌≡◌, ◌⊎◌, ◌↔◌, ℕ, Bool, true, false, IsTrue, MatchBool, ◌&&◌, Option, Some, None}
 use Rattle.std.specs.Prelude.{List, [], ◌∷◌, ◌++◌, codes, length}
 use Rattle.der_base.specs.declared.rules.Rules.TheVariants.{Ber}
 use Rattle.text_json.specs.Fields.Secrets.{IsSecret, secret_text}
 use Rattle.der_known.specs.declared.known.KnownTypes.{KnownTypes}
 use Rattle.der_print.specs.Lines.{IsFieldLine, content_in}
 use Rattle.der_schema.specs.declared.schema.Schema.{Schema}
-use Rattle.der_schema.specs.Known.{IsFirstSchema, IsKnownType, all_extras}
+use Rattle.der_schema.specs.Known.{IsFirstSchema, IsKnownType, IsOfType, all_extras}
 use Rattle.der_schema.specs.Meaning.{all_types, root_of}
 use Rattle.der_elements.specs.Visits.{Visited, Visits}
 use Rattle.der_show.specs.declared.known.Known.{Known}
 use Rattle.der_show.specs.declared.words.Words.{Words}
-use Rattle.der_show.specs.ByTypes.{AreTypeWords, IsInWords}
+use Rattle.der_show.specs.ByTypes.{AreLinesAlone, AreTypeWords, IsInWords, has_title}
 use Rattle.der_show.specs.InWords.{octets_in}
 use Rattle.der_show.specs.Known.{IsKnown, KeepsRules}
 use Rattle.der_show.specs.Leaves.{IsInLeaf, field_of, fields_style, leaf_line, words_text}
@@ -84,6 +84,15 @@ IsReadAlone name = (name ≡ codes "Certificate") ⊎ (name ≡ codes "Certifica
 -- the words of the type, or its fields
 abbrev pub AreWordsOfType : Option ℕ → Schema → List ℕ → Words → Type 0
 AreWordsOfType now sc i w = (IsInWords sc × AreTypeWords sc i w) ⊎ ((¬ IsInWords sc) × AreWordsByFields now sc i w)
+
+-- the words of the type, if they begin with a title, or its fields
+abbrev pub AreWordsAs : Option ℕ → Schema → List ℕ → Words → Type 0
+AreWordsAs now sc i w = MatchBool (has_title sc.components.now) (AreLinesAlone sc i w) (AreWordsByFields now sc i w)
+
+-- the text for octets by this type, if they have it
+abbrev pub IsShownAs : Option ℕ → Schema → List ℕ → Option Words → Type 0
+IsShownAs now sc i (Some w) = IsOfType (root_of sc) Ber i × AreWordsAs now sc i w
+IsShownAs now sc i None = ¬ IsOfType (root_of sc) Ber i
 
 -- the text for octets by that type, if there is one that isn't only shown by its reader
 abbrev pub IsByFields : Option ℕ → KnownTypes → List ℕ → Option Words → Type 0

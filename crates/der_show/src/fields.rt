@@ -3,16 +3,17 @@ ghost use Rattle.std.specs.Prelude.{◌≡◌, ◌↔◌, IfOk, IsTrue};
 ghost use Rattle.der_schema.specs.Known.{IsOfType};
 ghost use Rattle.der_schema.specs.Meaning.{root_of};
 ghost use Rattle.der_show.specs.FieldLines.{AreWordsFrom};
-ghost use Rattle.der_show.specs.ByTypes.{AreTypeWords, IsInWords, IsReadFirst, has_title};
-ghost use Rattle.der_show.specs.Fields.{AreWordsByFields, AreWordsOfType, IsByFields, IsReadAlone};
+ghost use Rattle.der_show.specs.ByTypes.{AreLinesAlone, AreTypeWords, IsInWords, IsReadFirst, has_title};
+ghost use Rattle.der_show.specs.Fields.{AreWordsAs, AreWordsByFields, AreWordsOfType, IsByFields, IsReadAlone};
+ghost use Rattle.der_show.specs.Fields.{IsShownAs};
 
 use crate::field_lines::{Written, with_lines};
-use crate::words::{Words, words_by_type};
+use crate::words::{Words, words_alone, words_by_type};
 use der_base::rules::Rules;
 use der_known::KnownTypes;
-use der_schema::Schema;
 use der_schema::schema::Component;
 use der_schema::words::Notation;
+use der_schema::{Schema, is_of_type};
 use std::alloc::{AllocError, Global};
 use type_words::words_text;
 
@@ -41,6 +42,48 @@ pub fn words_by_fields(
         }
         None => Ok(None),
     }
+}
+
+/// A text for octets that have this type by BER: its words if they begin with a title, or else as in `words_by_fields`.
+/// None if they don't have it. AllocError if there is no memory. `now` is as in `words_of`.
+pub fn words_as(
+    alloc: Global,
+    octets: &[u8],
+    schema: Schema<'_>,
+    now: Option<u64>,
+) -> Result<Option<Words>, AllocError>
+    ensures { IfOk result (λ words. IsShownAs now schema.entry octets.now words) }
+{
+    if is_of_type(octets, Rules::Ber, schema) {
+        return Ok(Some(words_as_type(alloc, octets, schema, now)?));
+    }
+    Ok(None)
+}
+
+/// The text for octets that have a type that isn't a known one.
+fn words_as_type(
+    alloc: Global,
+    octets: &[u8],
+    schema: Schema<'_>,
+    now: Option<u64>,
+) -> Result<Words, AllocError>
+    ensures { IsOfType (root_of schema.entry) Rules.Ber octets.now
+        → IfOk result (AreWordsAs now schema.entry octets.now) }
+{
+    if has_title(schema.components) {
+        lines_alone(alloc, octets, schema)
+    } else {
+        fields_of_type(alloc, octets, schema, now)
+    }
+}
+
+/// The words of a type, without its name.
+fn lines_alone(alloc: Global, octets: &[u8], schema: Schema<'_>) -> Result<Words, AllocError>
+    ensures { IsOfType (root_of schema.entry) Rules.Ber octets.now
+        → IfOk result (AreLinesAlone schema.entry octets.now) }
+{
+    let (text, _end) = words_text(alloc, octets, Rules::Ber, schema)?;
+    Ok(words_alone(text, true))
 }
 
 /// Whether the type with this name is only shown by its own reader.

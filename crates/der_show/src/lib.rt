@@ -40,7 +40,7 @@ mod why;
 mod words;
 
 pub use certificate_text::Why;
-pub use fields::words_by_fields;
+pub use fields::{words_as, words_by_fields};
 pub use json::json_of_words;
 pub use known::{Known, what_is};
 pub use message::{text_of_key, words_of_message};
