@@ -1,6 +1,6 @@
 //! Constraints that say what a string contains.
-use crate::fault::{Fault, Problem};
-use crate::lexer::tokens_of;
+use crate::fault::Problem;
+use crate::lexer::tokens_in;
 use crate::token::{Keyword, Symbol, Token, TokenKind};
 use std::alloc::Global;
 
@@ -10,10 +10,8 @@ pub fn contained_name<'a>(
     alloc: Global,
     constraint: &'a [u8],
 ) -> Result<Option<&'a [u8]>, Problem> {
-    match tokens_of(alloc, constraint) {
-        Ok(tokens) => Ok(name_behind_containing(&tokens)),
-        Err(Fault { problem, offset: _ }) => Err(problem),
-    }
+    let tokens = tokens_in(alloc, constraint)?;
+    Ok(name_behind_containing(&tokens))
 }
 
 fn name_behind_containing<'a>(tokens: &[Token<'a>]) -> Option<&'a [u8]> {

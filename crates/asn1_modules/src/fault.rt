@@ -126,21 +126,26 @@ pub struct Fault {
     pub offset: usize,
 }
 
+const OUT_OF_MEMORY: Fault = Fault {
+    problem: Problem::OutOfMemory,
+    offset: 0,
+};
+
 impl From<AllocError> for Fault {
     fn from(_e: AllocError) -> Fault {
-        Fault {
-            problem: Problem::OutOfMemory,
-            offset: 0,
-        }
+        OUT_OF_MEMORY
     }
 }
 
 impl<T: Drop> From<AllocFailed<T>> for Fault {
     fn from(_e: AllocFailed<T>) -> Fault {
-        Fault {
-            problem: Problem::OutOfMemory,
-            offset: 0,
-        }
+        OUT_OF_MEMORY
+    }
+}
+
+impl<T: Drop> From<AllocFailed<T>> for Problem {
+    fn from(_e: AllocFailed<T>) -> Problem {
+        Problem::OutOfMemory
     }
 }
 

@@ -3,6 +3,7 @@ ghost use Rattle.std.specs.Prelude.{◌≡◌, ℕ, ◌+◌, ◌<◌, ◌≤◌,
 ghost use Rattle.asn1_modules.specs.Items.{Lie};
 
 use crate::fault::{Fault, Problem};
+use crate::syntax::Span;
 use crate::token::{Token, TokenKind};
 use crate::words::{first_symbol, word_kind};
 use std::alloc::{AllocError, Global};
@@ -12,13 +13,32 @@ use std::alloc::{AllocError, Global};
 pub(crate) struct Piece {
     pub kind: Option<TokenKind>,
     pub length: usize,
+    pub is_comment: bool,
 }
 
-/// The lexical items of a text.
-pub(crate) fn tokens_of<'a>(alloc: Global, text: &'a [u8]) -> Result<Vec<Token<'a>>, Fault>
+/// The lexical items of a text, and its comments.
+#[derive(Drop)]
+pub(crate) struct Lexed<'a> {
+    pub tokens: Vec<Token<'a>>,
+    pub comments: Vec<Span>,
+}
+
+/// The lexical items of a text, such as a part of a module that the syntax tree keeps.
+pub fn tokens_in<'a>(alloc: Global, text: &'a [u8]) -> Result<Vec<Token<'a>>, Problem>
     ensures { IfOk result (λ v. Lie text.now 0 v.items (length text.now)) }
 {
+    match tokens_of(alloc, text) {
+        Ok(lexed) => Ok(lexed.tokens),
+        Err(Fault { problem, offset: _ }) => Err(problem),
+    }
+}
+
+/// The lexical items of a text, and its comments.
+pub(crate) fn tokens_of<'a>(alloc: Global, text: &'a [u8]) -> Result<Lexed<'a>, Fault>
+    ensures { IfOk result (λ v. Lie text.now 0 v.tokens.items (length text.now)) }
+{
     let mut tokens = Vec::new(alloc);
+    let mut comments = Vec::new(alloc);
     let mut rest = text;
     while let Some(first) = rest.first() {
         let offset = text.len() - rest.len();
@@ -28,9 +48,13 @@ pub(crate) fn tokens_of<'a>(alloc: Global, text: &'a [u8]) -> Result<Vec<Token<'
         };
         let (item, after) = rest.split_at(piece.length);
         push_item(&mut tokens, piece.kind, item, offset)?;
+        if piece.is_comment {
+            let end = offset.saturating_add(item.len());
+            comments.push(Span { start: offset, end })?;
+        }
         rest = after;
     }
-    Ok(tokens)
+    Ok(Lexed { tokens, comments })
 }
 
 /// Adds a lexical item, if it has a kind.
@@ -82,7 +106,21 @@ fn no_break_space(text: &[u8]) -> Result<Piece, Problem>
 fn space(length: usize) -> Piece
     ensures { result.length ≡ length }
 {
-    Piece { kind: None, length }
+    Piece {
+        kind: None,
+        length,
+        is_comment: false,
+    }
+}
+
+fn comment(length: usize) -> Piece
+    ensures { result.length ≡ length }
+{
+    Piece {
+        kind: None,
+        length,
+        is_comment: true,
+    }
 }
 
 fn token(kind: TokenKind, length: usize) -> Piece
@@ -91,6 +129,7 @@ fn token(kind: TokenKind, length: usize) -> Piece
     Piece {
         kind: Some(kind),
         length,
+        is_comment: false,
     }
 }
 
@@ -226,9 +265,9 @@ fn comment_or_symbol(first: u8, text: &[u8]) -> Result<Piece, Problem>
     ensures { IfOk result (λ p. (0 < p.length) × (p.length ≤ length text.now)) }
 {
     match text {
-        [b'-', b'-', after @ ..] => Ok(space(2 + line_comment_length(after))),
+        [b'-', b'-', after @ ..] => Ok(comment(2 + line_comment_length(after))),
         [b'/', b'*', after @ ..] => match block_comment_length(after) {
-            Some(length) => Ok(space(2 + length)),
+            Some(length) => Ok(comment(2 + length)),
             None => Err(Problem::Comment),
         },
         _ => symbol(first, text),

@@ -14,6 +14,7 @@ mod words;
 
 pub use constraint::contained_name;
 pub use fault::{Expected, Found, ModuleError, Problem, column_after, line_after};
+pub use lexer::tokens_in;
 pub use parser::read_modules;
 pub use syntax::{
     Arc, Assignment, AssignmentKind, Exports, Import, Kind, Module, NamedValue, Node, Number,

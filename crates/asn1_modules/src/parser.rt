@@ -11,9 +11,9 @@ mod types;
 mod values;
 
 use crate::fault::{Fault, ModuleError, located};
-use crate::lexer::tokens_of;
+use crate::lexer::{Lexed, tokens_of};
 use crate::parser::cursor::Cursor;
-use crate::syntax::Syntax;
+use crate::syntax::{Span, Syntax};
 use crate::token::Token;
 use std::alloc::Global;
 
@@ -34,8 +34,8 @@ pub fn read_modules<'a>(alloc: Global, text: &'a [u8]) -> Result<Syntax<'a>, Mod
 
 /// The syntax tree of a text, or its fault.
 fn syntax_of<'a>(alloc: Global, text: &'a [u8]) -> Result<Syntax<'a>, Fault> {
-    let tokens = tokens_of(alloc, text)?;
-    let mut parser = Parser::new(alloc, text, &tokens);
+    let Lexed { tokens, comments } = tokens_of(alloc, text)?;
+    let mut parser = Parser::new(alloc, text, &tokens, comments);
     parser.read_file()?;
     Ok(parser.finish())
 }
@@ -63,7 +63,12 @@ pub(crate) struct Parser<'t, 'a> {
 }
 
 impl<'t, 'a> Parser<'t, 'a> {
-    fn new(alloc: Global, text: &'a [u8], tokens: &'t [Token<'a>]) -> Parser<'t, 'a> {
+    fn new(
+        alloc: Global,
+        text: &'a [u8],
+        tokens: &'t [Token<'a>],
+        comments: Vec<Span>,
+    ) -> Parser<'t, 'a> {
         let syntax = Syntax {
             text,
             modules: Vec::new(alloc),
@@ -72,6 +77,7 @@ impl<'t, 'a> Parser<'t, 'a> {
             assignments: Vec::new(alloc),
             nodes: Vec::new(alloc),
             arcs: Vec::new(alloc),
+            comments,
         };
         let cursor = Cursor::new(tokens, text.len());
         Parser {

@@ -20,6 +20,8 @@ pub struct Syntax<'a> {
     pub nodes: Vec<Node<'a>>,
     /// The components of object identifier values (32.3).
     pub arcs: Vec<Arc<'a>>,
+    /// The comments, in the order of the text (12.6).
+    pub comments: Vec<Span>,
 }
 
 /// A part of a text: the offset of its first octet, and the offset after its last one.
