@@ -1,3 +1,4 @@
-pub mod Places
+pub mod Looks
+pub mod Opening
 pub mod Tagging
 pub mod UniversalTags

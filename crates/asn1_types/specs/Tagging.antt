@@ -8,7 +8,7 @@ use Rattle.asn1_modules.specs.declared.syntax.Tagging.{Tagging}
 use Rattle.asn1_modules.specs.declared.syntax.Tagging.TheVariants.{Default, Explicit, Implicit}
 use Rattle.asn1_types.specs.declared.item.Item.{Item}
 use Rattle.asn1_types.specs.declared.item.Shape.{Shape}
-use Rattle.asn1_types.specs.declared.item.Shape.TheVariants.{Holder, Items, Plain, Reference, Tagged as HasTag}
+use Rattle.asn1_types.specs.declared.item.Shape.TheVariants.{Holder, Items, OpenHolder, Plain, Reference, Tagged as HasTag}
 use Rattle.asn1_types.specs.declared.lists.Member.{Member}
 use Rattle.asn1_types.specs.declared.tags.Base.{Base}
 use Rattle.asn1_types.specs.declared.tags.PassedTags.{PassedTags}
@@ -19,6 +19,7 @@ use Rattle.der_schema.specs.declared.schema.Component.{Component}
 use Rattle.der_schema.specs.declared.schema.Form.{Form}
 use Rattle.der_schema.specs.declared.schema.Form.TheVariants.{Constructed, Either}
 use Rattle.der_schema.specs.declared.schema.Inside.{Inside}
+use Rattle.der_schema.specs.declared.schema.Inside.TheVariants.{Chosen as chosen_elements}
 use Rattle.der_schema.specs.declared.schema.Inside.TheOpen.{Any, Tagged, Choice, Selected, Numbered}
 use Rattle.der_schema.specs.declared.schema.Type.{«Type», out-Type}
 use Rattle.der_schema.specs.declared.schema.Type.TheVariants.{Any as AnyElement, Tagged as WithTag}
@@ -84,6 +85,7 @@ abbrev pub IsOwnType : Shape → Component → «Type» → Type 0
 IsOwnType (Plain t) c k = k ≡ WithTag Universal t.number t.form any_elements
 IsOwnType (Items n) c k = Holds Universal n Constructed true (each c) k
 IsOwnType (Holder n) c k = Holds Universal n Either false (components (c ∷ [])) k
+IsOwnType (OpenHolder n) c k = k ≡ WithTag Universal n Either chosen_elements
 IsOwnType (HasTag t n e) c k = Holds t n Constructed true (components (c ∷ [])) k
 IsOwnType _ c k = k ≡ AnyElement
 

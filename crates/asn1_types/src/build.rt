@@ -1,24 +1,67 @@
 //! Makes components of items.
-ghost use Rattle.std.specs.Prelude.{◌≡◌, IfOk};
+ghost use Rattle.std.specs.Prelude.{◌≡◌, IfOk, slice_get};
+ghost use Rattle.asn1_types.specs.Looks.{IsShownAs};
+ghost use Rattle.asn1_types.specs.Opening.{reference_to, selecting};
 ghost use Rattle.asn1_types.specs.Tagging.{IsOwnType, IsTypeAt};
 
-use crate::error::{Fault, Problem};
-use crate::item::{Item, SET, Shape, UniversalTag, fault_at};
+use crate::item::{Item, SET, Selections, Shape, UniversalTag, fault_at};
 use crate::lists::{List, Lists};
+use crate::look::look_of;
 use crate::tags::{base_of, tagged_type};
-use der_schema::schema::{Class, Component, Form, Inside, Secrecy, Type};
+use asn1_names::{Fault, Problem};
+use der_schema::schema::{Class, Component, Form, Inside, Type};
+use der_schema::words::{Notation, Words};
 use std::alloc::{AllocError, Global};
 use std::collections::BTreeSet;
 use std::slice;
 
-/// A component with this name.
-fn component(name: &'static str, optional: bool, kind: Type) -> Component {
-    Component {
+/// A component with this name, which is shown as the item with an index.
+fn component(
+    items: &[Item],
+    index: usize,
+    name: &'static str,
+    optional: bool,
+    kind: Type,
+) -> Result<Component, Fault>
+    ensures { IfOk result (IsShownAs items.now index) }
+{
+    let look = look_of(items, index)?;
+    Ok(Component {
         name,
         optional,
-        secrecy: Secrecy::Public,
+        secrecy: look.secrecy,
         kind,
-        words: None,
+        words: look.words,
+    })
+}
+
+/// A reference to the type of the item with an index, or what the last identifier selects.
+fn reference_to(items: &[Item], index: usize) -> Type
+    ensures { result ≡ reference_to (slice_get items.now index) index }
+{
+    match items.get(index) {
+        Some(item) if matches!(item.shape, Shape::Open) => Type::Selected,
+        _ => Type::Numbered(index),
+    }
+}
+
+/// A type with an identifier, which selects the type of a later element if it may.
+fn selecting(kind: Type, selections: Option<Selections>) -> Type
+    ensures { result ≡ selecting kind selections }
+{
+    match (kind, selections) {
+        (Type::Tagged(class, number, form, Inside::Free), Some(selections)) => {
+            Type::Tagged(class, number, form, Inside::Selects(selections.of))
+        }
+        (Type::Tagged(class, number, form, Inside::Components(components)), Some(selections)) => {
+            Type::Tagged(
+                class,
+                number,
+                form,
+                Inside::Begins(components, selections.of),
+            )
+        }
+        _ => kind,
     }
 }
 
@@ -41,8 +84,8 @@ pub(crate) fn types_of(
     add_choices(alloc, items, lists, &mut own)?;
     let mut components = Vec::new(alloc);
     for (index, item) in items.iter().enumerate() {
-        let kind = type_of(items, &own, index)?;
-        components.push(component(item.title, false, kind))?;
+        let kind = selecting(type_of(items, &own, index)?, item.selects);
+        components.push(component(items, index, item.title, false, kind)?)?;
     }
     Ok(references(alloc, components.leak())?)
 }
@@ -74,10 +117,19 @@ fn part(components: &'static [Component], first: usize, end: usize) -> &'static 
     }
 }
 
-/// For each item a component of the type that is inside it.
-fn inner_components(alloc: Global, items: &[Item]) -> Result<&'static [Component], AllocError> {
+/// The words of an element inside an explicit tag that has words: as is said around it.
+static AS_AROUND: Words = Words {
+    label: "",
+    kind: "",
+    notation: Notation::Silent,
+    heads: false,
+};
+
+/// For each item a component of the type that is inside it. The words of an explicit tag replace those of that type.
+fn inner_components(alloc: Global, items: &[Item]) -> Result<&'static [Component], Fault> {
     let mut components = Vec::new(alloc);
-    for item in items {
+    for (index, item) in items.iter().enumerate() {
+        let around = look_of(items, index)?;
         let (name, inner) = match (item.shape, items.get(item.inner)) {
             (
                 Shape::Items(_),
@@ -93,7 +145,12 @@ fn inner_components(alloc: Global, items: &[Item]) -> Result<&'static [Component
             (Shape::Items(_), Some(one)) => (one.name, item.inner),
             _ => ("", item.inner),
         };
-        components.push(component(name, false, Type::Numbered(inner)))?;
+        let kind = reference_to(items, inner);
+        let mut component = component(items, inner, name, false, kind)?;
+        if matches!(item.shape, Shape::Tagged(..)) && around.words.is_some() {
+            component.words = Some(&AS_AROUND);
+        }
+        components.push(component)?;
     }
     Ok(components.leak())
 }
@@ -119,6 +176,9 @@ fn own_type(shape: Shape, inner: &'static Component) -> Type
             Form::Either,
             Inside::Holds(slice::from_ref(inner)),
         ),
+        Shape::OpenHolder(number) => {
+            Type::Tagged(Class::Universal, number, Form::Either, Inside::Chosen)
+        }
         Shape::Tagged(class, number, _) => Type::Tagged(
             class,
             number,
@@ -139,10 +199,11 @@ fn add_components(
     items: &[Item],
     lists: &Lists,
     own: &mut Vec<Type>,
-) -> Result<(), AllocError> {
+) -> Result<(), Fault> {
     let mut components = Vec::new(alloc);
     for member in &lists.members {
-        components.push(component(member.name, member.optional, Type::Numbered(member.item)))?;
+        let kind = reference_to(items, member.item);
+        components.push(component(items, member.item, member.name, member.optional, kind)?)?;
     }
     let components: &'static [Component] = components.leak();
     for list in &lists.lists {
@@ -183,7 +244,7 @@ fn add_choices(
             Some(_) => type_of(items, own, member.item)?,
             None => Type::Any,
         };
-        alternatives.push(component(member.name, false, kind))?;
+        alternatives.push(component(items, member.item, member.name, false, kind)?)?;
     }
     let alternatives: &'static [Component] = alternatives.leak();
     for list in &lists.lists {

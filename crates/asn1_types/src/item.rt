@@ -2,9 +2,11 @@
 ghost use Rattle.std.specs.Prelude.{◌≡◌};
 ghost use Rattle.asn1_types.specs.UniversalTags.{class_of, plain, shape_of, universal_form, universal_number};
 
-use crate::error::{Fault, Place, Problem, START};
 use asn1_modules::{Kind, SimpleType, TagClass};
-use der_schema::schema::{Class, Form};
+use asn1_names::{Fault, Place, Problem, START};
+use der_schema::Secrecy;
+use der_schema::schema::{Class, Form, Selection};
+use der_schema::words::Words;
 
 /// A type, or what stands in the braces of one.
 #[derive(Clone, Copy)]
@@ -25,6 +27,19 @@ pub(crate) struct Item {
     pub optional: bool,
     /// Whether its module has automatic tagging (13.2).
     pub automatic: bool,
+    /// How it is shown, as a comment says.
+    pub words: Option<&'static Words>,
+    pub secrecy: Secrecy,
+    /// What its identifier selects, if it has one.
+    pub selects: Option<Selections>,
+}
+
+/// What an identifier selects.
+#[derive(Clone, Copy)]
+pub(crate) struct Selections {
+    /// The number of the object set.
+    pub set: usize,
+    pub of: &'static [Selection],
 }
 
 /// What an item is.
@@ -40,6 +55,10 @@ pub(crate) enum Shape {
     Items(u32),
     /// A string that contains a type, with this tag number (X.682 11).
     Holder(u32),
+    /// What the last identifier selects (X.681 14.1).
+    Open,
+    /// A string that contains what the last identifier selects, with this tag number (X.682 11).
+    OpenHolder(u32),
     Choice,
     /// A tag, and whether it is explicit whatever it is the tag of (31.2.7 a, b).
     Tagged(Class, u32, bool),
@@ -62,9 +81,13 @@ pub(crate) struct UniversalTag {
     pub form: Form,
 }
 
+pub(crate) const INTEGER: u32 = 2;
+
 pub(crate) const BIT_STRING: u32 = 3;
 
 pub(crate) const OCTET_STRING: u32 = 4;
+
+pub(crate) const OBJECT_IDENTIFIER: u32 = 6;
 
 pub(crate) const SEQUENCE: u32 = 16;
 
@@ -76,11 +99,11 @@ pub(crate) fn plain_shape(kind: Kind<'static>) -> Shape
 {
     match kind {
         Kind::Simple(simple) => Shape::Plain(simple_tag(simple)),
-        Kind::Integer => primitive(2),
+        Kind::Integer => primitive(INTEGER),
         Kind::Enumerated => primitive(10),
         Kind::BitString => string(BIT_STRING),
         Kind::OctetString => string(OCTET_STRING),
-        Kind::ObjectIdentifier => primitive(6),
+        Kind::ObjectIdentifier => primitive(OBJECT_IDENTIFIER),
         Kind::EmbeddedPdv => constructed(11),
         Kind::CharacterString => constructed(29),
         Kind::Sequence => Shape::Components(SEQUENCE),
@@ -95,7 +118,7 @@ pub(crate) fn plain_shape(kind: Kind<'static>) -> Shape
     }
 }
 
-fn primitive(number: u32) -> Shape
+pub(crate) fn primitive(number: u32) -> Shape
     ensures { result ≡ plain number Form.Primitive }
 {
     Shape::Plain(UniversalTag {

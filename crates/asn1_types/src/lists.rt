@@ -2,11 +2,13 @@
 ghost use Rattle.std.specs.Prelude.{◌≡◌, slice_get};
 ghost use Rattle.asn1_types.specs.Tagging.{are_untagged, has_automatic_tags, is_tagged};
 
-use crate::error::{Fault, MOST_COPIES, MOST_STEPS, Problem};
 use crate::item::{Item, Shape, fault_at};
 use crate::tags::base_of;
+use asn1_modules::{Expected, Found, Symbol, TokenKind};
+use asn1_names::{Fault, MOST_COPIES, MOST_STEPS, Problem};
 use der_schema::schema::Class;
 use std::alloc::{AllocError, Global};
+use std::collections::{BTreeMap, BTreeSet};
 
 /// A component or an alternative.
 #[derive(Clone, Copy)]
@@ -30,12 +32,28 @@ pub(crate) struct List {
     pub end: usize,
 }
 
+/// What a member is found by: the item of its list, and its name.
+#[derive(Clone, Copy, Debug, PartialEq, Eq, PartialOrd, Ord)]
+pub(crate) struct ListMember {
+    pub list: usize,
+    pub name: &'static str,
+}
+
 /// The members of all lists.
 #[derive(Drop)]
 pub(crate) struct Lists {
     pub lists: Vec<List>,
     pub members: Vec<Member>,
 }
+
+/// The most extension markers that a list may have (X.680 25.1, 29.1).
+const MOST_MARKERS: usize = 2;
+
+/// A list has a marker more.
+const ANOTHER_MARKER: Problem = Problem::Syntax(asn1_modules::Problem::Unexpected {
+    expected: Expected::Identifier,
+    found: Found::Item(TokenKind::Symbol(Symbol::Ellipsis)),
+});
 
 /// Makes the members of all lists, and adds an item for each automatic tag.
 pub(crate) fn make_lists(alloc: Global, items: &mut Vec<Item>) -> Result<Lists, Fault> {
@@ -148,7 +166,7 @@ fn copy_members(
 }
 
 /// The members of a list as they stand in the text.
-fn own_members(alloc: Global, items: &[Item], list: usize) -> Result<Vec<Member>, AllocError> {
+fn own_members(alloc: Global, items: &[Item], list: usize) -> Result<Vec<Member>, Fault> {
     let mut members = Vec::new(alloc);
     let Some(around) = items.get(list) else {
         return Ok(members);
@@ -165,7 +183,11 @@ fn own_members(alloc: Global, items: &[Item], list: usize) -> Result<Vec<Member>
         if around.after <= index {
             return Ok(members);
         }
-        if !marked.pass(item) {
+        if marked.pass(item) {
+            if MOST_MARKERS < marked.markers {
+                return Err(fault_at(items, index, ANOTHER_MARKER));
+            }
+        } else {
             let addition = marked.is_addition(index);
             members.push(Member {
                 name: item.name,
@@ -307,11 +329,45 @@ fn root_count(members: &[Member]) -> u32 {
     count
 }
 
+/// The items of the alternatives of CHOICEs that are selected from.
+#[derive(Drop)]
+struct Alternatives {
+    alloc: Global,
+    choices: BTreeSet<usize>,
+    items: BTreeMap<ListMember, usize>,
+}
+
+impl Alternatives {
+    fn new(alloc: Global) -> Alternatives {
+        Alternatives {
+            alloc,
+            choices: BTreeSet::new(alloc),
+            items: BTreeMap::new(alloc),
+        }
+    }
+
+    /// The item of the first alternative with a name.
+    fn named(&mut self, items: &[Item], named: ListMember) -> Result<Option<usize>, Fault> {
+        if self.choices.insert(named.list)? {
+            let members = own_members(self.alloc, items, named.list)?;
+            for member in members.iter().rev() {
+                let key = ListMember {
+                    name: member.name,
+                    ..named
+                };
+                self.items.insert(key, member.item)?;
+            }
+        }
+        Ok(self.items.get(&named).copied())
+    }
+}
+
 /// Replaces selection types by references to the alternative that they select (30.1).
 pub(crate) fn select(alloc: Global, items: &mut Vec<Item>) -> Result<(), Fault> {
+    let mut alternatives = Alternatives::new(alloc);
     for index in (0..items.len()).rev() {
         if let Shape::Selection(name) = shape_at(items, index) {
-            let selected = selected(alloc, items, index, name)?;
+            let selected = selected(&mut alternatives, items, index, name)?;
             if let Some(item) = items.get_mut(index) {
                 *item = selecting(*item, selected);
             }
@@ -338,7 +394,7 @@ fn selecting(item: Item, selected: Option<usize>) -> Item {
 /// The item of the alternative that a selection type selects. None if its type is any element, or is itself selected
 /// elsewhere.
 fn selected(
-    alloc: Global,
+    alternatives: &mut Alternatives,
     items: &[Item],
     selection: usize,
     name: &'static str,
@@ -347,9 +403,12 @@ fn selected(
     match shape_at(items, base.end) {
         Shape::Any | Shape::Unknown | Shape::Selection(_) => return Ok(None),
         Shape::Choice => {
-            let members = own_members(alloc, items, base.end)?;
-            if let Some(member) = members.iter().find(|member| member.name == name) {
-                return Ok(Some(member.item));
+            let named = ListMember {
+                list: base.end,
+                name,
+            };
+            if let Some(item) = alternatives.named(items, named)? {
+                return Ok(Some(item));
             }
         }
         _ => {}

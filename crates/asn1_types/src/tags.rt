@@ -3,9 +3,9 @@ ghost use Rattle.std.specs.Prelude.{◌≡◌, IfOk, slice_get};
 ghost use Rattle.asn1_types.specs.Tagging.{LeadsTo, base_at, is_said_explicit, next_base, passed_tags, retagged};
 ghost use Rattle.asn1_types.specs.Tagging.{tagged_type, type_at};
 
-use crate::error::{Fault, MOST_STEPS, Problem};
 use crate::item::{Item, Shape, fault_at};
 use asn1_modules::{TagDefault, Tagging};
+use asn1_names::{Fault, MOST_STEPS, Problem};
 use der_schema::schema::{Class, Type};
 
 /// Whether a tag is explicit whatever it is the tag of: it says so, or nothing, and its module has explicit tags
@@ -58,7 +58,7 @@ pub(crate) fn base_of(items: &[Item], start: usize) -> Result<Base, Fault>
 }
 
 /// What the item at the end leads to, if it is a reference or an implicit tag.
-fn next_base(items: &[Item], base: Base) -> Option<Base>
+pub(crate) fn next_base(items: &[Item], base: Base) -> Option<Base>
     ensures { result ≡ next_base (slice_get items.now base.end) base }
 {
     let item = items.get(base.end)?;

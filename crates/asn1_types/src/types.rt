@@ -1,12 +1,14 @@
 //! The types of modules.
 use crate::build::types_of;
-use crate::error::{Fault, OUT_OF_MEMORY, TypesError, located};
 use crate::item::{SEQUENCE, SET};
+use crate::items::{items_of, types_among};
 use crate::lists::{make_lists, select};
-use crate::load::{Root, load};
+use crate::look::add_words;
+use crate::open_types::bind_open_types;
+use asn1_names::{Fault, OUT_OF_MEMORY, Root, TypesError, load, located};
 use der_elements::TypeName;
 use der_schema::schema::{Class, Component, Inside, Schema, Type};
-use der_schema::{KnownType, first_named};
+use der_schema::{KnownType, first_named, first_with_letters};
 use std::alloc::{AllocError, Global};
 use std::fmt;
 
@@ -53,22 +55,11 @@ impl Types {
 
     /// The type with this name: the first with the same letters, or else the first with these letters in any case.
     pub fn type_named(&self, name: &str) -> Option<Schema<'static>> {
-        if let Some(schema) = first_named(self.known, self.types, name) {
-            return Some(schema);
-        }
-        let full = same_letters(self.known, name)?;
-        first_named(self.known, self.types, full)
-    }
-}
-
-/// The name of the first of these types that has the letters of a name, in any case.
-fn same_letters(known: &'static [KnownType], name: &str) -> Option<&'static str> {
-    for one in known {
-        if one.name.eq_ignore_ascii_case(name) {
-            return Some(one.name);
+        match first_named(self.known, self.types, name) {
+            Some(schema) => Some(schema),
+            None => first_with_letters(self.known, self.types, name),
         }
     }
-    None
 }
 
 /// Copies of texts that live as long as the program.
@@ -83,11 +74,13 @@ fn keep_texts(alloc: Global, texts: &[&[u8]]) -> Result<&'static [&'static [u8]]
 
 fn make_types(alloc: Global, texts: &'static [&'static [u8]]) -> Result<Types, Fault> {
     let loaded = load(alloc, texts)?;
-    let mut items = loaded.items(alloc)?;
+    let mut items = items_of(alloc, &loaded)?;
     select(alloc, &mut items)?;
+    add_words(alloc, &loaded, &mut items)?;
+    bind_open_types(alloc, &loaded, &mut items)?;
     let lists = make_lists(alloc, &mut items)?;
     let references = types_of(alloc, &items, &lists)?;
-    let roots = loaded.types_among(alloc, &items)?;
+    let roots = types_among(alloc, &loaded, &items)?;
     let known = known_types(alloc, &roots)?;
     Ok(Types {
         modules: module_types(alloc, &loaded.modules, &roots, known)?,

@@ -29,6 +29,7 @@ const FAULTS: &[(&str, &str)] = &[
         "line 1, column 31: a type is defined by itself, or through more than 64 names and tags"),
     ("A ::= a < B B ::= CHOICE { b NULL }", "line 1, column 31: no alternative is a"),
     ("A ::= a < NULL", "line 1, column 31: no alternative is a"),
+    ("A ::= SEQUENCE { ..., ..., ... }", "line 1, column 52: expected an identifier, found '...'"),
     ("A ::= SEQUENCE { a [] NULL }", "line 1, column 45: expected a number, found ']'"),
 ];
 

@@ -1,7 +1,7 @@
 //! Types of modules beside those of der_known, as graphs: names, tags, OPTIONAL, alternatives, items, and what
 //! identifiers select. Types refer to each other in cycles, so two types are compared once.
 
-use crate::titles::{Title, Titles};
+use crate::titles::Titles;
 use crate::words::{tag_text, type_text, word_of};
 use asn1_types::Types;
 use der_schema::KnownType;
@@ -25,8 +25,6 @@ pub struct Comparison<'a> {
 /// Where a comparison is.
 #[derive(Clone, Copy)]
 struct Spot<'p> {
-    /// The index of the module whose type it is.
-    module: usize,
     /// The type or the component around it.
     owner: &'p str,
     /// The component, with `.!` for what is inside an explicit tag, and `.*` for an item.
@@ -49,9 +47,9 @@ impl<'a> Comparison<'a> {
     /// Compares each type that has a name in a module. Returns how many there are.
     pub fn compare(&mut self, name: &str, theirs: &Component) -> Result<usize, AllocError> {
         let mut count: usize = 0;
-        for (index, module) in self.ours.modules.iter().enumerate() {
+        for module in self.ours.modules {
             if let Some(ours) = module.types.iter().find(|it| it.name == name) {
-                let spot = Spot { module: index, owner: module.name, step: name };
+                let spot = Spot { owner: module.name, step: name };
                 self.component(spot, &component_of(ours), theirs)?;
                 count = count.saturating_add(1);
             }
@@ -60,7 +58,7 @@ impl<'a> Comparison<'a> {
     }
 
     fn differ(&mut self, spot: Spot<'_>, ours: &str, theirs: &str) -> Result<(), AllocError> {
-        let Spot { owner, step, .. } = spot;
+        let Spot { owner, step } = spot;
         let dot = if step.is_empty() { "" } else { "." };
         let text = format!(in self.alloc; "{owner}{dot}{step}: {ours} | {theirs}")?;
         self.found.insert(text)?;
@@ -98,11 +96,11 @@ impl<'a> Comparison<'a> {
         let (one, other) = (resolved(ours, self.ours.types), resolved(theirs, self.theirs));
         let title = self.titles.title_of(self.alloc, one)?;
         let spot = match title {
-            Some(Title { module, name }) => Spot { module, owner: name, step: "" },
+            Some(owner) => Spot { owner, step: "" },
             None => spot,
         };
         match (one, other) {
-            (Type::Any, Type::Any) => Ok(()),
+            (Type::Any, Type::Any) | (Type::Selected, Type::Selected) => Ok(()),
             (Type::Choice(one), Type::Choice(other)) => self.alternatives(spot, one, other),
             (Type::Choice([one]), _) => {
                 self.differ(spot, "choice", "its alternative")?;
@@ -197,8 +195,8 @@ impl<'a> Comparison<'a> {
             for other in selection.components {
                 let spot = Spot { step: name_of(other, self.theirs), ..spot };
                 match selected_in(ours, selection.identifier) {
+                    Some(one) if spot.step.is_empty() => self.unnamed(spot, one, other)?,
                     Some(one) => self.component(spot, one, other)?,
-                    None if ours.is_empty() => self.selected_by_name(spot, other)?,
                     None => self.differ(spot, "missing", "selected")?,
                 }
             }
@@ -206,42 +204,11 @@ impl<'a> Comparison<'a> {
         for selection in ours {
             for one in selection.components {
                 let spot = Spot { step: name_of(one, self.ours.types), ..spot };
-                let missing = selected_in(theirs, selection.identifier).is_none();
+                let missing = !theirs.is_empty() && selected_in(theirs, selection.identifier).is_none();
                 self.differ_if(missing, spot, "selected", "missing")?;
             }
         }
         Ok(())
-    }
-
-    /// Compares what an identifier selects with the type that `type_like` finds, since open types of modules select
-    /// nothing yet.
-    fn selected_by_name(&mut self, spot: Spot<'_>, theirs: &Component) -> Result<(), AllocError> {
-        let name = spot.step;
-        match self.type_like(spot.module, name, theirs.kind)? {
-            Some(one) if name.is_empty() => self.unnamed(spot, &component_of(one), theirs),
-            Some(one) => self.component(spot, &component_of(one), theirs),
-            None => self.differ_if(!name.is_empty(), spot, "missing", "selected"),
-        }
-    }
-
-    /// A type of this module, or else of the first that has one: the type with the letters of a name whose first
-    /// component has the name of another type's, or else the type whose components all have the names of the others.
-    fn type_like(&self, module: usize, name: &str, other: Type) -> Result<Option<&'static KnownType>, AllocError> {
-        let wanted = names_of(self.alloc, other, self.theirs)?;
-        let own = self.ours.modules.get(module).into_iter();
-        let mut like = None;
-        for module in own.chain(self.ours.modules) {
-            for one in module.types {
-                let names = names_of(self.alloc, one.kind, self.ours.types)?;
-                if has_letters_of(one.name, name) && names.split(' ').next() == wanted.split(' ').next() {
-                    return Ok(Some(one));
-                }
-                if like.is_none() && !names.is_empty() && names == wanted {
-                    like = Some(one);
-                }
-            }
-        }
-        Ok(like)
     }
 }
 
@@ -250,20 +217,10 @@ fn component_of(one: &KnownType) -> Component {
     Component { name: one.name, optional: false, secrecy: Secrecy::Public, kind: one.kind, words: None }
 }
 
-/// The names of the components of a list, or of what a string holds, in small letters.
-fn names_of(alloc: Global, kind: Type, types: &[&'static Component]) -> Result<String, AllocError> {
-    let mut names = String::new(alloc);
-    for component in components_of(inside_of(resolved(kind, types))).unwrap_or(&[]) {
-        write!(names, "{} ", name_of(component, types))?;
-    }
-    names.make_ascii_lowercase();
-    Ok(names)
-}
-
 /// The spot of a component.
 fn below<'p>(spot: Spot<'p>, name: &'p str) -> Spot<'p> {
     let owner = if spot.step.is_empty() { spot.owner } else { spot.step };
-    Spot { owner, step: name, ..spot }
+    Spot { owner, step: name }
 }
 
 /// The name that elements of a component have.
@@ -326,11 +283,4 @@ fn selections_of(inside: Inside) -> &'static [Selection] {
         Inside::Selects(table) | Inside::Begins(_, table) => table,
         _ => &[],
     }
-}
-
-/// Whether two names have the same letters and digits, in any case.
-fn has_letters_of(one: &str, other: &str) -> bool {
-    let one = one.bytes().filter(|it| *it != b'-').map(|it| it.to_ascii_lowercase());
-    let other = other.bytes().filter(|it| *it != b'-').map(|it| it.to_ascii_lowercase());
-    one.eq(other)
 }

@@ -6,32 +6,25 @@ use der_schema::schema::{Component, Inside, Type};
 use std::alloc::{AllocError, Global};
 use std::collections::BTreeMap;
 
-/// The name of a type, and the index of its module.
-#[derive(Clone, Copy, Drop)]
-pub struct Title {
-    pub module: usize,
-    pub name: &'static str,
-}
-
 /// The names of lists and of CHOICEs, by their keys.
 #[derive(Drop)]
-pub struct Titles(BTreeMap<String, Title>);
+pub struct Titles(BTreeMap<String, &'static str>);
 
 impl Titles {
     pub fn of(alloc: Global, types: Types) -> Result<Titles, AllocError> {
         let mut titles = BTreeMap::new(alloc);
-        for (module, of_module) in types.modules.iter().enumerate() {
-            for one in of_module.types {
+        for module in types.modules {
+            for one in module.types {
                 let key = key_text(alloc, resolved(one.kind, types.types))?;
                 if !key.is_empty() && is_own(one.kind, types.types) {
-                    titles.insert(key, Title { module, name: one.name })?;
+                    titles.insert(key, one.name)?;
                 }
             }
         }
         Ok(Titles(titles))
     }
 
-    pub fn title_of(&self, alloc: Global, kind: Type) -> Result<Option<Title>, AllocError> {
+    pub fn title_of(&self, alloc: Global, kind: Type) -> Result<Option<&'static str>, AllocError> {
         let key = key_text(alloc, kind)?;
         Ok(self.0.get(&key).copied())
     }
@@ -66,7 +59,12 @@ fn is_own(kind: Type, types: &[&'static Component]) -> bool {
 fn key_text(alloc: Global, kind: Type) -> Result<String, AllocError> {
     let mut text = String::new(alloc);
     match kind {
-        Type::Tagged(_, _, _, Inside::Components([first, ..]) | Inside::Members([first, ..])) => {
+        Type::Tagged(
+            _,
+            _,
+            _,
+            Inside::Components([first, ..]) | Inside::Members([first, ..]) | Inside::Begins([first, ..], _),
+        ) => {
             if let Type::Numbered(index) = first.kind {
                 write!(text, "list {index}")?;
             }
