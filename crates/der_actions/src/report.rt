@@ -154,7 +154,7 @@ pub(crate) fn report_end<W: Write, X: Write>(
 }
 
 /// Reports where the input doesn't match the type of the options.
-pub(crate) fn report_type<X: Write>(
+pub fn report_type<X: Write>(
     options: &Options<'_>,
     origin: Origin<'_>,
     octets: &[u8],

@@ -4,11 +4,14 @@ use Rattle.std.specs.Prelude.{List, [], ◌++◌, codes}
 use Rattle.std.specs.Io.KnownBytes.{Appends, Keeps}
 use Rattle.std.specs.Option.{option_map, unwrap_or}
 use Rattle.der_base.specs.declared.rules.Rules.TheVariants.{Ber}
+use Rattle.der_actions.specs.declared.options.Naming.{Naming}
+use Rattle.der_actions.specs.declared.options.Naming.TheVariants.{Unnamed, ByFirst, By}
 use Rattle.der_actions.specs.declared.options.Options.{Options}
 use Rattle.der_actions.specs.declared.origin.Origin.{Origin}
 use Rattle.der_show.specs.declared.unread.Unread.{Unread}
 use Rattle.der_show.specs.declared.words.Words.{Words}
 use Rattle.der_show.specs.Described.{IsDescribed}
+use Rattle.der_show.specs.Fields.{IsShownAs}
 use Rattle.der_show.specs.Json.{IsJson}
 use Rattle.der_show.specs.Refused.{offset_of}
 use Rattle.der_show.specs.RefusedTexts.{IsRefusedText}
@@ -48,10 +51,28 @@ AddsWordsFrom s o i w old new = MatchBool o.is_json (AddsWordsObject s i w old n
 abbrev pub AddsWords : Options → List ℕ → Words → Option (List ℕ) → Option (List ℕ) → Type 0
 AddsWords o i w old new = (s : Source) × AddsWordsFrom s o i w old new
 
+-- the summary of an input: that by the type that it has to have, or else that of the first format that it has
+abbrev pub IsSummaryBy : Naming → Option ℕ → List ℕ → Option Words → Type 0
+IsSummaryBy Unnamed now i words = IsDescribed now i words
+IsSummaryBy (ByFirst types) now i words = IsDescribed now i words
+IsSummaryBy (By sc) now i words = IsShownAs now sc i words
+
+abbrev pub IsSummary : Options → List ℕ → Option Words → Type 0
+IsSummary o i words = IsSummaryBy o.naming o.present i words
+
+-- why an input isn't a certificate, CRL or certification request, unless it has to have another type
+abbrev pub IsUnreadBy : Naming → List ℕ → Option Unread → Type 0
+IsUnreadBy Unnamed i unread = IsWhyUnread i unread
+IsUnreadBy (ByFirst types) i unread = IsWhyUnread i unread
+IsUnreadBy (By sc) i unread = unread ≡ None
+
+abbrev pub IsUnread : Options → List ℕ → Option Unread → Type 0
+IsUnread o i unread = IsUnreadBy o.naming i unread
+
 -- known octets grew by the summary of an input, and whether it breaks a rule that is an error
 pub record ShowsWordsOf (o : Options) (i : List ℕ) (broken : Bool) (old new : Option (List ℕ)) : Type 0 where
   pub words : Words
-  pub describes : IsDescribed o.present i (Some words)
+  pub describes : IsSummary o i (Some words)
   pub breaks : is_broken o words ≡ broken
   pub adds : AddsWords o i words old new
 
@@ -102,7 +123,7 @@ AddsFoundFrom s o i unread text old new =
 -- known octets grew by what was read of a rejected certificate, or by the JSON object of the error
 pub record ShowsRead (o : Options) (i : List ℕ) (old new : Option (List ℕ)) : Type 0 where
   pub unread : Option Unread
-  pub why : IsWhyUnread i unread
+  pub why : IsUnread o i unread
   pub text : Option (List ℕ)
   pub is_text : IsTextOf o.present i unread text
   pub source : Source
@@ -111,5 +132,5 @@ pub record ShowsRead (o : Options) (i : List ℕ) (old new : Option (List ℕ)) 
 -- An input has no summary, and what was read of a certificate is written. Or known octets grew by its summary, and it
 -- breaks a rule, which is an error.
 pub data RefusesShown (o : Options) (i : List ℕ) (old new : Option (List ℕ)) : Type 0 where
-  no_words : IsDescribed o.present i None → ShowsRead o i old new → RefusesShown o i old new
+  no_words : IsSummary o i None → ShowsRead o i old new → RefusesShown o i old new
   breaks_rule : ShowsWordsOf o i true old new → RefusesShown o i old new

@@ -3,15 +3,15 @@ ghost use Rattle.std.specs.Option.{option_copied};
 ghost use Rattle.std.specs.Prelude.{◌≡◌, IfOk, IsTrue, OnOk, false, not};
 ghost use Rattle.der_show.specs.Messages.{text_in};
 ghost use Rattle.der_cli.specs.Shown.{AddsFoundFrom, AddsText, AddsWords, AddsWordsFrom, IsTextOf, RefusesShown};
-ghost use Rattle.der_cli.specs.Shown.{ShowsRead, ShowsWords, is_broken, source_of};
+ghost use Rattle.der_cli.specs.Shown.{IsSummary, IsUnread, ShowsRead, ShowsWords, is_broken, source_of};
 
 use crate::shown_object::{write_refused, write_shown};
-use der_actions::options::Options;
+use der_actions::options::{Naming, Options};
 use der_actions::origin::Origin;
-use der_actions::report::report_fault;
+use der_actions::report::{report_fault, report_type};
 use der_elements::check::check_element;
 use der_elements::{MAX_DEPTH, Rules};
-use der_show::{Unread, Words, text_of_refused, why_unread, words_of};
+use der_show::{Unread, Words, text_of_refused, why_unread, words_as, words_of};
 use std::alloc::{AllocError, Global};
 use std::io;
 use std::io::Write;
@@ -31,10 +31,24 @@ pub(crate) fn show<W: Write, X: Write>(
     ensures refused { IfOk result (λ ok. ok ≡ false
         → RefusesShown options.now octets.now (W.contents out.old) (W.contents out.new)) }
 {
-    let found = words_of(alloc, octets, options.present)?;
+    let found = summary_of(alloc, options, octets)?;
     match found {
         Some(words) => write_words(alloc, options, origin, octets, &words, out, err),
         None => refuse(alloc, options, origin, octets, out, err),
+    }
+}
+
+/// The summary of octets: that by the type that they have to have, or else that of the first format that they have.
+fn summary_of(
+    alloc: Global,
+    options: &Options<'_>,
+    octets: &[u8],
+) -> Result<Option<Words>, AllocError>
+    ensures { IfOk result (λ words. IsSummary options.now octets.now words) }
+{
+    match options.naming {
+        Naming::By(schema) => words_as(alloc, octets, schema, options.present),
+        Naming::Unnamed | Naming::ByFirst(_) => words_of(alloc, octets, options.present),
     }
 }
 
@@ -98,12 +112,22 @@ fn refuse<W: Write, X: Write>(
     ensures refused { IfOk result (λ ok. ok ≡ false) }
     ensures shows { OnOk result (ShowsRead options.now octets.now (W.contents out.old) (W.contents out.new)) }
 {
-    let unread = why_unread(octets);
+    let unread = unread_of(options, octets);
     let found = text_of_unread(alloc, options.present, octets, unread.as_ref())?;
     put_found(alloc, options, origin, octets, unread.as_ref(), &found, out)?;
     out.flush()?;
-    report_unknown(origin, octets, unread.as_ref(), err)?;
+    report_unknown(options, origin, octets, unread.as_ref(), err)?;
     Ok(false)
+}
+
+/// Why octets aren't a certificate, CRL or certification request, unless they have to have another type.
+fn unread_of<'a>(options: &Options<'_>, octets: &'a [u8]) -> Option<Unread<'a>>
+    ensures { IsUnread options.now octets.now result }
+{
+    match options.naming {
+        Naming::By(_) => None,
+        Naming::Unnamed | Naming::ByFirst(_) => why_unread(octets),
+    }
 }
 
 /// A summary of what was read of a certificate before the error.
@@ -135,7 +159,7 @@ fn put_found<W: Write>(
         (text_in found.now) (W.contents out.old) (W.contents out.new)) }
 {
     if options.is_json {
-        return write_refused(alloc, origin, octets, unread, found, out);
+        return write_refused(alloc, options, origin, octets, unread, found, out);
     }
     write_found(found, out)
 }
@@ -150,8 +174,10 @@ fn write_found<W: Write>(found: &Option<Vec<u8>>, out: &mut W) -> io::Result<()>
     }
 }
 
-/// Reports where octets aren't valid BER, or else why they aren't a certificate, CRL or certification request.
+/// Reports where octets aren't valid BER, or else where they don't match the type that they have to have, or why they
+/// aren't a certificate, CRL or certification request.
 pub(crate) fn report_unknown<X: Write>(
+    options: &Options<'_>,
     origin: Origin<'_>,
     octets: &[u8],
     unread: Option<&Unread<'_>>,
@@ -159,6 +185,9 @@ pub(crate) fn report_unknown<X: Write>(
 ) -> io::Result<()> {
     if report_fault(Rules::Ber, origin, octets, err)? {
         return Ok(());
+    }
+    if let Naming::By(_) = options.naming {
+        return report_type(options, origin, octets, err);
     }
     match unread {
         Some(unread) if has_trust(origin, octets, unread) => {

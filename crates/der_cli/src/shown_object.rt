@@ -7,6 +7,7 @@ ghost use Rattle.der_show.specs.Refused.{offset_of};
 ghost use Rattle.der_cli.specs.Shown.{AddsError, AddsWordsObject, IsErrorOffset, source_of};
 
 use crate::show::report_unknown;
+use der_actions::options::Options;
 use der_actions::origin::Origin;
 use der_elements::{Rules, Walk};
 use der_show::{Unread, Words, json_of_words};
@@ -33,6 +34,7 @@ pub(crate) fn write_shown<W: Write>(
 /// Writes the error as a JSON object, with the text that was read before it.
 pub(crate) fn write_refused<W: Write>(
     alloc: Global,
+    options: &Options<'_>,
     origin: Origin<'_>,
     octets: &[u8],
     unread: Option<&Unread<'_>>,
@@ -42,7 +44,7 @@ pub(crate) fn write_refused<W: Write>(
     ensures { OnOk result (AddsError (source_of origin.entry) octets.now (option_copied unread.entry)
         (text_in found.now) (W.contents out.old) (W.contents out.new)) }
 {
-    let error = error_text(alloc, origin, octets, unread)?;
+    let error = error_text(alloc, options, origin, octets, unread)?;
     let offset = error_offset(octets, unread);
     let object = refused_json(alloc, source_of(origin), &error, offset, text_of(found))?;
     write_line(&object, out)
@@ -79,12 +81,13 @@ fn text_of(found: &Option<Vec<u8>>) -> &[u8]
 /// The error, as it is reported.
 fn error_text(
     alloc: Global,
+    options: &Options<'_>,
     origin: Origin<'_>,
     octets: &[u8],
     unread: Option<&Unread<'_>>,
 ) -> io::Result<String> {
     let mut report = Vec::new(alloc);
-    report_unknown(origin, octets, unread, &mut report)?;
+    report_unknown(options, origin, octets, unread, &mut report)?;
     let report = String::from_utf8_lossy(alloc, &report)?;
     let start = format!(in alloc; "der: {origin}: ")?;
     let line = report.trim_end();

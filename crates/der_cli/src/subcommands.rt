@@ -81,7 +81,7 @@ static SHOW_COMMAND: Subcommand = Subcommand {
     name: "show",
     about: "Print a summary of certificates, CRLs, CSRs, keys and messages",
     notes: Some(SHOW_NOTES),
-    arguments: &[JSON, STRICT, NOW, RECURSIVE, FROM, FILES],
+    arguments: &[AS_SHOWN, ASN1, JSON, STRICT, NOW, RECURSIVE, FROM, FILES],
 };
 
 fn show() -> &'static Subcommand {
@@ -239,6 +239,11 @@ const AS: Argument = Argument {
 
 const AS_TYPE: Argument = Argument {
     help: "Also check the type, such as Certificate",
+    ..AS
+};
+
+const AS_SHOWN: Argument = Argument {
+    help: "Type, such as AS-REQ (default: detected)",
     ..AS
 };
 

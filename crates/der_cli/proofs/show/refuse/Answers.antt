@@ -15,10 +15,10 @@ returns-clause-shows g c =
     let new = g.W.Write.contents c.flush.new.self in
     let adds = subst (λ u. AddsFoundFrom s o i u text old put) c.as_ref-2.ensures.value c.in_ok-put_found.ensures in
     record {
-      unread = c.why_unread-unread.result;
-      why = c.why_unread-unread.ensures;
+      unread = c.unread_of-unread.result;
+      why = c.unread_of-unread.ensures;
       text = text;
       is_text = subst (λ u. IsTextOf o.present i u text) c.as_ref.ensures.value c.in_ok-found.ensures;
       source = s;
-      adds = kept_found s o i c.why_unread-unread.result text old put new adds c.in_ok-flush.ensures.bytes;
+      adds = kept_found s o i c.unread_of-unread.result text old put new adds c.in_ok-flush.ensures.bytes;
     }
